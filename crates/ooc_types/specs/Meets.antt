@@ -1,0 +1,56 @@
+-- When a row meets a list of types, and when it is of a schema.
+use Rattle.std.specs.Prelude.{ℕ, ℤ, pos, ◌≡◌, ◌≤◌, ◌^◌, ◌<ℤ◌, ◌+ℤ◌, true, if◌then◌else◌, nat_le, List, [], ◌∷◌, length, map, ⊤, FitsSigned, IsUtf8}
+use Rattle.std.specs.Int.{w32, w64, w128}
+use Rattle.ooc_types.specs.declared.value.Value.{Value}
+use Rattle.ooc_types.specs.declared.value.Value.TheVariants.{Null, Truth, Number, Text}
+use Rattle.ooc_types.specs.declared.schema.Column.{Column}
+use Rattle.ooc_types.specs.declared.schema.SqlType.{SqlType}
+use Rattle.ooc_types.specs.declared.schema.SqlType.TheVariants.{Boolean, Integer, BigInt, HugeInt, Decimal, Varchar}
+
+-- Each value of a row and the fact that its own item of the list asks of it; both lists are equally long.
+abbrev pub AllMeet : {A : Type 0} → (A → Value → Type 0) → List A → List Value → Type 0
+AllMeet Fact [] [] = ⊤
+AllMeet Fact [] (value ∷ values) = ⊥
+AllMeet Fact (item ∷ items) [] = ⊥
+AllMeet Fact (item ∷ items) (value ∷ values) = Fact item value × AllMeet Fact items values
+
+-- a number that fits the bytes of its type's cell, at the type's scale
+abbrev pub IsNumberOf : SqlType → ℤ → ℕ → Type 0
+IsNumberOf Boolean digits scale = ⊥
+IsNumberOf Integer digits scale = FitsSigned w32 digits × (scale ≡ 0)
+IsNumberOf BigInt digits scale = FitsSigned w64 digits × (scale ≡ 0)
+IsNumberOf HugeInt digits scale = FitsSigned w128 digits × (scale ≡ 0)
+IsNumberOf (Decimal width places) digits scale = FitsSigned (if nat_le width 18 then w64 else w128) digits × (scale ≡ places)
+IsNumberOf Varchar digits scale = ⊥
+
+-- NULL, or a value of the type's form: a truth, a number that fits the type's cell, or a text within the limit
+abbrev pub HasForm : ℕ → SqlType → Value → Type 0
+HasForm limit kind Null = ⊤
+HasForm limit kind (Truth truth) = kind ≡ Boolean
+HasForm limit kind (Number digits scale) = IsNumberOf kind digits scale
+HasForm limit kind (Text bytes) = (kind ≡ Varchar) × (length bytes ≤ limit)
+
+-- a row whose values have the forms of these types, with texts of at most `limit` bytes
+abbrev pub Meets : ℕ → List SqlType → List Value → Type 0
+Meets limit kinds row = AllMeet (HasForm limit) kinds row
+
+-- a number in the range of its type
+abbrev pub IsInRange : SqlType → ℤ → Type 0
+IsInRange Boolean digits = ⊥
+IsInRange Integer digits = FitsSigned w32 digits
+IsInRange BigInt digits = FitsSigned w64 digits
+IsInRange HugeInt digits = (digits <ℤ pos (2 ^ 127)) × (pos 0 <ℤ (digits +ℤ pos (2 ^ 127)))
+IsInRange (Decimal width places) digits = (digits <ℤ pos (10 ^ width)) × (pos 0 <ℤ (digits +ℤ pos (10 ^ width)))
+IsInRange Varchar digits = ⊥
+
+-- a value that a table's column may hold
+abbrev pub IsValueOf : Column → Value → Type 0
+IsValueOf column Null = column.nullable ≡ true
+IsValueOf column (Truth truth) = ⊤
+IsValueOf column (Number digits scale) = IsInRange column.kind digits
+IsValueOf column (Text bytes) = IsUtf8 bytes
+
+-- A row of a table with these columns: it meets their types, each number is in its type's range, each text is
+-- UTF-8, and NULL stands only in a column that allows it.
+abbrev pub IsOf : ℕ → List Column → List Value → Type 0
+IsOf limit columns row = Meets limit (map (λ column. column.kind) columns) row × AllMeet IsValueOf columns row

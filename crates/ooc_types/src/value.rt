@@ -1,0 +1,12 @@
+//! A value of SQL.
+
+use crate::text::Text;
+
+/// A value. A number is its digits divided by ten to the power of its scale; an integer has the scale 0.
+#[derive(Clone, Debug, Drop, PartialEq, Eq)]
+pub enum Value {
+    Null,
+    Truth(bool),
+    Number { digits: i128, scale: u8 },
+    Text(Text),
+}
