@@ -1,0 +1,2 @@
+//! Lists that hold the same rows equally often.
+#![tactic(auto)]

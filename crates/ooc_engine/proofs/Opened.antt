@@ -1,0 +1,61 @@
+-- What the script's bytes make of its opening.
+use Rattle.std.proofs.Common.{◌≡◌, ℕ, ◌+◌, ◌<◌, ◌≤◌, ◌⊎◌, inl, inr, List, ◌++◌, length, Option, None, Some, Result, Ok, Err, refl, ap, ◌∙◌, sym, subst, arith, length-append}
+use Rattle.std.specs.Option.{IfSome}
+use Rattle.std.specs.FinMap.{get}
+use Rattle.ooc_io.specs.Held.{Held}
+use Rattle.ooc_types.specs.declared.refusal.RefusalKind.{RefusalKind}
+use Rattle.ooc_types.specs.declared.refusal.RefusalKind.TheVariants.{NotBuilt}
+use Rattle.ooc_engine.specs.declared.settings.Settings.{Settings}
+use Rattle.ooc_engine.specs.declared.statement.Statement.{Statement}
+use Rattle.ooc_engine.specs.declared.status.Status.{Status}
+use Rattle.ooc_engine.specs.declared.status.Status.TheVariants.{Usage, OutOfMemory}
+use Rattle.ooc_engine.specs.declared.status.UsageFault.{UsageFault}
+use Rattle.ooc_engine.specs.Settings.{settings}
+use Rattle.ooc_engine.specs.Status.{script_refused}
+use Rattle.ooc_engine.specs.Script.{Script, script_of, IsTree, IsOpened, IsOpenedWith}
+use Rattle.ooc_engine.specs.ScriptText.{IsScript, most}
+use Rattle.ooc_io.specs.Opens.{Opens}
+use Rattle.ooc_engine.specs.Says.{MayCut}
+use Rattle.ooc_engine.specs.Ends.{IsSettings, IsScriptRead, IsParsed, IsReadUpTo}
+
+module _ (words : List (List ℕ)) (held : Held) where
+  -- wrong words, or none of memory for the name
+  pub no_settings : (status : Status) → IsSettings (settings words) (Err status) → IsOpened words held (Err status) ⊎ MayCut status
+  no_settings status (inl (fault, is, usage)) = inl (rw is (ap Err usage))
+  no_settings status (inr (s, is, memory)) = inr (subst MayCut (sym memory) tt)
+
+  module _ (s : Settings) (named : settings words ≡ Ok s) where
+    with_tree : (tree : Result (List Statement) RefusalKind) → IsTree (get held s.script) tree → IsOpened words held (script_of s tree)
+    with_tree tree is = subst (λ (r : Result Settings UsageFault). IsOpenedWith r held (script_of s tree)) (sym named) (tree, is, refl)
+
+    -- the script isn't read
+    pub unread_opened : (status : Status) → IsScriptRead (get held s.script) (Err status) → IsOpened words held (Err status) ⊎ MayCut status
+    unread_opened status (inl (kind, is, refused)) = inl (subst (λ (x : Status). IsOpened words held (Err x)) (sym refused) (with_tree (Err kind) is))
+    unread_opened status (inr may) = inr may
+
+    module _ (bytes : List ℕ) (read : get held s.script ≡ Some bytes) where
+      with_bytes : (tree : Result (List Statement) RefusalKind) → IsTree (Some bytes) tree → IsOpened words held (script_of s tree)
+      with_bytes tree is = with_tree tree (subst (λ (file : Option (List ℕ)). IsTree file tree) (sym read) is)
+
+      -- its bytes are a script of the form
+      pub parsed_opened : (statements : List Statement) → IsScript bytes statements → IsOpened words held (Ok (record { settings = s; statements = statements }))
+      parsed_opened statements is = with_bytes (Ok statements) is
+
+      -- they aren't
+      pub unparsed_opened : (status : Status) → IsParsed bytes (Err status) → IsOpened words held (Err status) ⊎ MayCut status
+      unparsed_opened status (inl (is, refused)) = inl (subst (λ (x : Status). IsOpened words held (Err x)) (sym refused) (with_bytes (Err NotBuilt) is))
+      unparsed_opened status (inr memory) = inr (subst MayCut (sym memory) tt)
+
+-- a script with more bytes than the form allows
+long_script : (bytes text : List ℕ) → IsReadUpTo most bytes text → most < length text → (statements : List Statement) → IsScript bytes statements → ⊥
+long_script bytes text h long statements is =
+    let longer : length bytes ≡ length text + length h.0 = ap length h.1 ∙ length-append text h.0 in
+    absurd (omega (arith, is.short))
+
+pub too_long : {X : Type 0} (x : X) (holds : Option Held) (left : Option (List ℕ)) (name text : List ℕ) → Opens holds name (Ok x) left → IfSome left (λ bytes. IsReadUpTo most bytes text) → most < length text
+    → IfSome holds (λ held. IsScriptRead (get held name) (Err (script_refused NotBuilt)))
+too_long x None left name text opened read long = tt
+too_long x (Some held) left name text opened read long =
+    let bytes = opened.0 in
+    let told : IsReadUpTo most bytes text = subst (λ (o : Option (List ℕ)). IfSome o (λ b. IsReadUpTo most b text)) opened.2 read in
+    inl (NotBuilt, subst (λ (file : Option (List ℕ)). IsTree file (Err NotBuilt)) (sym opened.1) (refl, long_script bytes text told long), refl)

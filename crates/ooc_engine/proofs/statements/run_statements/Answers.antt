@@ -1,0 +1,38 @@
+use Rattle.std.proofs.Common.{drop, ◌∙◌, arith}
+use Rattle.std.proofs.Math.ListN.{drop_of_length-le}
+use Rattle.ooc_engine.specs.Meaning.{outcome}
+use Rattle.ooc_engine.proofs.SoFar.{told_ran, told_lost, told_stopped, told_done, drop_next}
+use Rattle.ooc_engine.proofs.statements.run_statements.Goals as goal
+
+pub returns-in-Err-clause-says : goal.returns-in-Err-clause-says
+returns-in-Err-clause-says g c =
+    let l = c.loop-statement in
+    let all = c.args.statements.now in
+    let is = drop_next all l.statement-index c.statement-item.result c.loop-statement-test.true c.statement-item.is in
+    told_stopped _ (outcome c.args.settings.now) _ all _ l.number _ c.run_statement.new.catalog _ _ _ _ _ is l.invariant.so_far c.in-Err.status c.end.result (rw (l.invariant.holds) at c.in-Err.ensures.step) c.end.ensures.line
+
+pub returns-in-Err-write_all-clause-says : goal.returns-in-Err-write_all-clause-says
+returns-in-Err-write_all-clause-says g c =
+    let l = c.loop-statement in
+    let all = c.args.statements.now in
+    let is = drop_next all l.statement-index c.statement-item.result c.loop-statement-test.true c.statement-item.is in
+    told_lost _ (outcome c.args.settings.now) _ all _ l.number _ c.run_statement.new.catalog _ _ _ _ _ is l.invariant.so_far c.in-Ok.block.items (rw (l.invariant.holds) at c.in-Ok.ensures.step) (rw (c.as_slice.ensures.value) at c.in-Err-write_all.ensures.bytes)
+
+pub loop-statement-preserved : goal.loop-statement-preserved
+loop-statement-preserved g c =
+    let l = c.loop-statement in
+    let all = c.args.statements.now in
+    let is = drop_next all l.statement-index c.statement-item.result c.loop-statement-test.true c.statement-item.is in
+    record {
+      counted = omega arith;
+      holds = c.in-Ok.ensures.holds ∙ l.invariant.holds;
+      later = omega (arith, c.in-Ok.ensures.later, l.invariant.later);
+      faults = c.in-Ok-write_all.ensures.cause ∙ l.invariant.faults;
+      so_far = told_ran _ (outcome c.args.settings.now) _ all _ l.number _ c.run_statement.new.catalog _ _ _ _ _ is l.invariant.so_far c.in-Ok.block.items (rw (l.invariant.holds) at c.in-Ok.ensures.step) (rw (c.as_slice.ensures.value) at c.in-Ok-write_all.ensures.bytes);
+    }
+
+pub returns-clause-says : goal.returns-clause-says
+returns-clause-says g c =
+    let l = c.loop-statement in
+    let all = c.args.statements.now in
+    told_done _ (outcome c.args.settings.now) _ all _ l.number _ (drop l.statement-index all) _ _ c.end-2.result (drop_of_length-le all c.loop-statement-test.false) l.invariant.so_far c.end-2.ensures.line

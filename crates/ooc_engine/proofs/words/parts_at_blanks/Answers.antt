@@ -1,0 +1,10 @@
+use Rattle.std.proofs.lemmas.Iterator.Splits.{YieldsList-from_slice_split}
+use Rattle.std.proofs.lemmas.Iterator.Consumers.{map_from_collect}
+use Rattle.std.proofs.Common.{rules}
+use Rattle.ooc_engine.specs.ScriptText.{is_blank}
+use Rattle.ooc_engine.proofs.words.parts_at_blanks.Goals as goal
+
+pub returns : goal.returns
+returns c =
+    let all = map_from_collect _ c.collect.ensures.ran (YieldsList-from_slice_split _ is_blank c.args.text.now c.split.ensures.rest c.split.ensures.done c.split.ensures.closure (search rules)) in
+    ?

@@ -1,0 +1,13 @@
+pub mod Settings
+pub mod Status
+pub mod Lines
+pub mod Catalog
+pub mod Block
+pub mod ScriptText
+pub mod FormReading
+pub mod Script
+pub mod FileRows
+pub mod Meaning
+pub mod Says
+pub mod Counted
+pub mod Ends

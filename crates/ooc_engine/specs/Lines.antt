@@ -1,0 +1,72 @@
+-- The line that a run ends with.
+use Rattle.std.specs.Prelude.{ℕ, List, [], ◌++◌, codes, decimal, if◌then◌else◌, ◌==◌}
+use Rattle.ooc_types.specs.declared.refusal.RefusalKind.{RefusalKind}
+use Rattle.ooc_types.specs.declared.refusal.RefusalKind.TheVariants as kind
+use Rattle.ooc_engine.specs.declared.status.Status.{Status}
+use Rattle.ooc_engine.specs.declared.status.Status.TheVariants.{Done, Refused, Usage, ReadFault, WriteFault, OutOfMemory}
+use Rattle.ooc_engine.specs.declared.status.UsageFault.{UsageFault}
+use Rattle.ooc_engine.specs.declared.status.UsageFault.TheVariants.{Words}
+use Rattle.ooc_engine.specs.declared.status.Place.{Place}
+use Rattle.ooc_engine.specs.declared.status.Place.TheVariants.{Whole, Byte, Record}
+use Rattle.ooc_engine.specs.declared.status.Refusal.{Refusal}
+
+-- the words of a refusal's kind
+abbrev pub kind_text : RefusalKind → List ℕ
+kind_text kind.BadToken = codes "bad token"
+kind_text kind.Syntax = codes "syntax"
+kind_text kind.TooDeep = codes "too deep"
+kind_text kind.ScriptTooLong = codes "too long"
+kind_text kind.NoFile = codes "no file"
+kind_text kind.NoTable = codes "no table"
+kind_text kind.TableExists = codes "table exists"
+kind_text kind.NoColumn = codes "no column"
+kind_text kind.Ambiguous = codes "ambiguous"
+kind_text kind.DuplicateName = codes "duplicate name"
+kind_text kind.NoType = codes "no type"
+kind_text kind.NoFunction = codes "no function"
+kind_text kind.TypeMismatch = codes "type mismatch"
+kind_text kind.AggregateHere = codes "aggregate here"
+kind_text kind.NotGrouped = codes "not grouped"
+kind_text kind.SumTooWide = codes "sum too wide"
+kind_text kind.DecimalTooWide = codes "decimal too wide"
+kind_text kind.TooManyColumns = codes "too many columns"
+kind_text kind.TooManyTables = codes "too many tables"
+kind_text kind.NoJoinKey = codes "no join key"
+kind_text kind.BadOption = codes "bad option"
+kind_text kind.BadPosition = codes "bad position"
+kind_text kind.TextTooLong = codes "text too long"
+kind_text kind.FileTooLong = codes "file too long"
+kind_text kind.RecordTooLong = codes "record too long"
+kind_text kind.OpenQuote = codes "open quote"
+kind_text kind.FieldCount = codes "field count"
+kind_text kind.NullRefused = codes "null refused"
+kind_text kind.BadUtf8 = codes "bad utf8"
+kind_text kind.BadValue = codes "bad value"
+kind_text kind.Overflow = codes "overflow"
+kind_text kind.CountOverflow = codes "count overflow"
+kind_text kind.ResultTooLarge = codes "result too large"
+kind_text kind.NotBuilt = codes "not built"
+
+abbrev pub place_text : Place → List ℕ
+place_text Whole = []
+place_text (Byte at) = codes " at " ++ decimal at
+place_text (Record number column) = codes " record " ++ (decimal number ++ (codes " column " ++ decimal column))
+
+-- the script, whose refusals have the number 0, or a statement
+abbrev pub subject_text : ℕ → List ℕ
+subject_text statement = if statement == 0 then codes "script" else codes "statement " ++ decimal statement
+
+abbrev pub refusal_line : Refusal → List ℕ
+refusal_line r = codes "error: " ++ (subject_text r.statement ++ (place_text r.place ++ (codes ": " ++ (kind_text r.kind ++ codes "\n"))))
+
+abbrev pub usage_line : UsageFault → List ℕ
+usage_line Words = codes "usage: oocsql [--threads N] [--limit BYTES] [--page BYTES] SCRIPT\n"
+
+-- nothing for a run that is done, or whose output failed
+abbrev pub line_of : Status → List ℕ
+line_of Done = []
+line_of (Refused r) = refusal_line r
+line_of (Usage fault) = usage_line fault
+line_of ReadFault = codes "error: read fault\n"
+line_of WriteFault = []
+line_of OutOfMemory = codes "error: out of memory\n"

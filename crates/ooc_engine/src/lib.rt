@@ -1,0 +1,32 @@
+//! The engine.
+#![tactic(auto)]
+
+mod catalog;
+mod ending;
+mod execute;
+mod form;
+mod lines;
+mod naming;
+mod opening;
+mod reading;
+mod run;
+mod settings;
+mod statement;
+mod statements;
+mod status;
+mod words;
+mod writing;
+
+pub use catalog::Catalog;
+pub use ending::end;
+pub use execute::run_statement;
+pub use form::{Form, FormStop, parse};
+pub use lines::line_of;
+pub use opening::open_script;
+pub use reading::{ReadFailure, read_up_to};
+pub use run::run_alone;
+pub use settings::{Settings, read_settings};
+pub use statements::run_statements;
+pub use statement::{FileName, Filter, Names, Sign, Statement};
+pub use status::{Place, Refusal, Status, UsageFault};
+pub use writing::write_all;

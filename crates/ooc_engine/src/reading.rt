@@ -1,0 +1,69 @@
+//! Reading a file to its end, in pieces.
+ghost use Rattle.std.specs.Prelude.{◌≡◌, ◌<◌, ◌≤◌, ◌^◌, true, IfOk, IfErr, IfSome, vec_len};
+ghost use Rattle.ooc_io.specs.Counts.{Rose};
+ghost use Rattle.ooc_engine.specs.Ends.{IsReadUpTo};
+
+use ooc_io::{Files, FilesFailed};
+use std::alloc::{AllocError, Global};
+
+/// How many bytes are asked for at a time.
+const PIECE: usize = 65536;
+
+/// Why a file wasn't read to its end.
+#[derive(Clone, Copy, Debug, PartialEq, Eq)]
+pub enum ReadFailure {
+    Read,
+    Memory,
+}
+
+impl From<AllocError> for ReadFailure {
+    ghost use Rattle.ooc_engine.specs.declared.reading.ReadFailure.TheVariants.{Memory};
+
+    ghost from_gives = { λ _ e. e ≡ Memory };
+
+    fn from(_: AllocError) -> Self {
+        ReadFailure::Memory
+    }
+}
+
+impl From<FilesFailed> for ReadFailure {
+    ghost use Rattle.ooc_engine.specs.declared.reading.ReadFailure.TheVariants.{Read};
+
+    ghost from_gives = { λ _ e. e ≡ Read };
+
+    fn from(_: FilesFailed) -> Self {
+        ReadFailure::Read
+    }
+}
+
+// So many bytes.
+fn zeroed(alloc: Global, count: usize) -> Result<Vec<u8>, AllocError>
+    ensures { IfOk result (λ piece. vec_len piece ≡ count) }
+{
+    vec![in alloc; 0; count]
+}
+
+/// The rest of the open file; or, of one with more than `most` bytes, a front that is longer than that.
+pub fn read_up_to<F: Files>(
+    alloc: Global,
+    files: &mut F,
+    most: usize,
+) -> Result<Vec<u8>, ReadFailure>
+    requires opened { F.is_open files.old ≡ true }
+    requires few { most < 2 ^ 62 }
+    ensures bytes { IfOk result (λ text. IfSome (F.left files.old) (λ bytes. IsReadUpTo most bytes text.items)) }
+    ensures holds { F.holds files.new ≡ F.holds files.old }
+    ensures later { F.faults files.old ≤ F.faults files.new }
+    ensures cause { IfErr result (λ e. e ≡ ReadFailure.Read → Rose (F.faults files.old) (F.faults files.new)) }
+{
+    let mut piece = zeroed(alloc, PIECE)?;
+    let mut text = Vec::new(alloc);
+    while text.len() <= most {
+        let count = files.read(piece.as_mut_slice())?;
+        if count == 0 {
+            return Ok(text);
+        }
+        text.extend_from_slice(&piece[..count])?;
+    }
+    Ok(text)
+}
