@@ -55,3 +55,11 @@ width_of_least kinds = omega (arith, offset_of_least kinds (length kinds), offse
 pub offsets_of_at : (kinds : List CellKind) (column : ℕ) → column ≤ 65 → get_or (offsets_of kinds) column 0 ≡ offset_of kinds column
 unfolding offsets_of
 offsets_of_at kinds column h = get_or-map-range_with_len (λ c. offset_of kinds c) 0 66 column column 0 (omega arith) (omega arith)
+
+-- a column's bit lies in the mask, and its cell in the row
+pub mask_holds : (kinds : List CellKind) (column : ℕ) → column < length kinds → column / 8 < mask_bytes kinds
+unfolding mask_bytes
+mask_holds kinds column h = omega arith
+
+pub cell_ends : (kinds : List CellKind) (column : ℕ) → column < length kinds → offset_of kinds column + cell_width (get_or kinds column Bit) ≤ width_of kinds
+cell_ends kinds column h = omega (arith, offset_of_next kinds column h, offset_of_most kinds (column + 1))

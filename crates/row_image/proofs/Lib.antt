@@ -1,1 +1,4 @@
+pub mod ByteLemmas
 pub mod LayoutLemmas
+pub mod RuleLemmas
+pub mod AcceptedLemmas

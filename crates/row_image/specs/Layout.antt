@@ -38,3 +38,7 @@ has_texts kinds = list_any is_text kinds
 -- how many rows fit on a page, behind its 128 bytes of head
 unfoldable pub rows_that_fit : List CellKind → ℕ → ℕ
 rows_that_fit kinds page = (page - 128) / width_of kinds
+
+-- where a row begins on its page
+unfoldable pub row_place : List CellKind → ℕ → ℕ
+row_place kinds row = 128 + row * width_of kinds

@@ -1,6 +1,6 @@
 //! What cells a row has, and where they lie in it.
-ghost use Rattle.std.specs.Prelude.{◌≡◌, ◌<◌, ◌≤◌, ◌+◌, length, slice_get, Some};
-ghost use Rattle.row_image.specs.Layout.{cell_width, is_text, mask_bytes, offset_of, width_of, has_texts, rows_that_fit};
+ghost use Rattle.std.specs.Prelude.{◌≡◌, ◌<◌, ◌≤◌, ◌+◌, length, slice_index_or};
+ghost use Rattle.row_image.specs.Layout.{cell_width, is_text, mask_bytes, offset_of, width_of, has_texts, rows_that_fit, row_place};
 ghost use Rattle.row_image.specs.Padded.{offsets_of};
 
 use std::marker::Model;
@@ -99,7 +99,7 @@ impl Layout {
     /// A column's kind.
     pub fn kind(&self, column: usize) -> CellKind
         requires { column < length self.now }
-        ensures { slice_get self.now column ≡ Some result }
+        ensures { result ≡ slice_index_or self.now column CellKind.Bit }
     {
         self.kinds[column]
     }
@@ -113,6 +113,14 @@ impl Layout {
         offsets[column] as usize
     }
 
+    /// How many bytes the null mask takes, behind which the hash stands.
+    #[tactic(auto, unfolding(crate::specs::Layout::mask_bytes))]
+    pub fn mask_bytes(&self) -> usize
+        ensures { result ≡ mask_bytes self.now }
+    {
+        (self.columns() + 7) / 8
+    }
+
     /// How many bytes a row takes.
     pub fn width(&self) -> usize
         ensures width { result ≡ width_of self.now }
@@ -120,6 +128,14 @@ impl Layout {
         ensures least { 8 ≤ result }
     {
         self.offset(self.columns())
+    }
+
+    /// Where a row begins on its page.
+    #[tactic(auto, unfolding(crate::specs::Layout::row_place))]
+    pub fn row_place(&self, row: u32) -> usize
+        ensures { result ≡ row_place self.now row }
+    {
+        128 + row as usize * self.width()
     }
 
     /// Whether there is a column of texts.

@@ -3,6 +3,13 @@
 #![tactic(auto)]
 
 mod bytes;
+mod cell;
+mod image;
 mod layout;
+mod put;
+mod read;
 
+pub use cell::{Cell, CellIn};
+pub use image::{Damage, DamageField, ImageKind, Part, RowPut, Shape};
 pub use layout::{CellKind, Layout};
+pub use read::{read_cell, row_count, row_hash_of};
