@@ -1,7 +1,7 @@
 -- Where cells lie: each behind the one before, and all of them within the row.
 use Rattle.std.proofs.Common.{◌≡◌, ℕ, ◌+◌, ◌*◌, ◌-◌, ◌/◌, ◌<◌, ◌≤◌, List, [], ◌∷◌, length, get_or, take, map, refl, ap, sym, ◌∙◌, arith}
 use Rattle.std.specs.List.{sum_by, range_with_len}
-use Rattle.std.proofs.lemmas.List.{take_all}
+use Rattle.std.proofs.lemmas.List.{take_all, take-take}
 use Rattle.std.proofs.lemmas.List.FromFn.{get_or-map-range_with_len}
 use Rattle.std.proofs.lemmas.List.Sums.{sum_by-cons, sum_by_more, sum_by-take-le}
 use Rattle.row_image.specs.declared.layout.CellKind.{CellKind}
@@ -63,3 +63,10 @@ mask_holds kinds column h = omega arith
 
 pub cell_ends : (kinds : List CellKind) (column : ℕ) → column < length kinds → offset_of kinds column + cell_width (get_or kinds column Bit) ≤ width_of kinds
 cell_ends kinds column h = omega (arith, offset_of_next kinds column h, offset_of_most kinds (column + 1))
+
+-- cells stand one behind the other
+pub cells_apart : (kinds : List CellKind) (i j : ℕ) → i < j → j ≤ length kinds → offset_of kinds i + cell_width (get_or kinds i Bit) ≤ offset_of kinds j
+unfolding offset_of
+cells_apart kinds i j h within =
+    let front : take (i + 1) (take j kinds) ≡ take (i + 1) kinds = take-take (i + 1) j kinds (omega arith) in
+    omega (arith, sum_by_more cell_width kinds i Bit (omega arith), sum_by-take-le cell_width (take j kinds) (i + 1), ap (sum_by cell_width) front)

@@ -2,3 +2,4 @@ pub mod ByteLemmas
 pub mod LayoutLemmas
 pub mod RuleLemmas
 pub mod AcceptedLemmas
+pub mod StoreLemmas

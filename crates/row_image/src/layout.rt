@@ -116,7 +116,8 @@ impl Layout {
     /// How many bytes the null mask takes, behind which the hash stands.
     #[tactic(auto, unfolding(crate::specs::Layout::mask_bytes))]
     pub fn mask_bytes(&self) -> usize
-        ensures { result ≡ mask_bytes self.now }
+        ensures count { result ≡ mask_bytes self.now }
+        ensures most { result ≤ 9 }
     {
         (self.columns() + 7) / 8
     }

@@ -1,5 +1,5 @@
 //! Writing the bytes of a row: its null mask, its hash and its cells.
-ghost use Rattle.std.specs.Prelude.{◌≡◌, ℕ, ◌+◌, ◌*◌, ◌<◌, ◌≤◌, length, slice_index, slice_index_or};
+ghost use Rattle.std.specs.Prelude.{◌≡◌, ℕ, ◌+◌, ◌*◌, ◌<◌, ◌≤◌, length, slice_index, slice_index_or, slice_range};
 ghost use Rattle.std.specs.Int.{bit_at};
 ghost use Rattle.row_image.specs.Bytes.{number_at, ChangesOnly};
 ghost use Rattle.row_image.specs.Layout.{cell_width, mask_bytes, width_of, offset_of};
@@ -139,12 +139,21 @@ fn put_long(image: &mut [u8], at: usize, kind: CellKind, prefix: [u8; 4], size: 
     requires room { at + cell_width kind ≤ length image.old }
     requires takes { Takes kind (text_limit (length image.old)) (StoredCell.LongCell prefix size address) }
     ensures others { ChangesOnly image.old image.new at (at + cell_width kind) }
-    ensures stored { cell_at kind image.new at ≡ StoredCell.LongCell prefix length address }
+    ensures stored { cell_at kind image.new at ≡ StoredCell.LongCell prefix size address }
 {
     set_word(image, at, size);
-    image[at + 4] = prefix[0];
-    image[at + 5] = prefix[1];
-    image[at + 6] = prefix[2];
-    image[at + 7] = prefix[3];
+    put_prefix(image, at + 4, prefix);
     set_long(image, at + 8, address);
+}
+
+// Writes the first bytes of a text that lies on a heap page.
+fn put_prefix(image: &mut [u8], at: usize, prefix: [u8; 4])
+    requires { at + 4 ≤ length image.old }
+    ensures others { ChangesOnly image.old image.new at (at + 4) }
+    ensures text { slice_range image.new at (at + 4) ≡ prefix }
+{
+    image[at] = prefix[0];
+    image[at + 1] = prefix[1];
+    image[at + 2] = prefix[2];
+    image[at + 3] = prefix[3];
 }
