@@ -3,3 +3,5 @@ pub mod LayoutLemmas
 pub mod RuleLemmas
 pub mod AcceptedLemmas
 pub mod StoreLemmas
+pub mod ListLemmas
+pub mod PartLemmas

@@ -5,3 +5,4 @@ pub mod Cells
 pub mod Image
 pub mod Rules
 pub mod Stores
+pub mod Parts

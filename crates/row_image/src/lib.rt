@@ -6,6 +6,7 @@ mod bytes;
 mod cell;
 mod image;
 mod layout;
+mod parts;
 mod put;
 mod read;
 
