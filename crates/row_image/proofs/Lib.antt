@@ -5,3 +5,5 @@ pub mod AcceptedLemmas
 pub mod StoreLemmas
 pub mod ListLemmas
 pub mod PartLemmas
+pub mod PartFacts
+pub mod CellRuleLemmas

@@ -104,45 +104,48 @@ unfoldable pub part_rules : List ℕ → ℕ → List Rule
 part_rules image part = first_rule image part ∷ part_rows_rule image part ∷ base_rule image part ∷ []
 
 -- a truth is 0 or 1
-abbrev pub bit_rule : List ℕ → ℕ → Rule
-bit_rule image at = record { field = CellBit; holds = nat_le (slice_index image at) 1; found = slice_index image at; bound = 1 }
+abbrev pub bit_rule : ℕ → Rule
+bit_rule byte = record { field = CellBit; holds = nat_le byte 1; found = byte; bound = 1 }
 
--- a text is within the limit
-abbrev pub size_rule : List ℕ → ℕ → Rule
-size_rule image size = record { field = CellLength; holds = nat_le size (text_limit (length image)); found = size; bound = text_limit (length image) }
+-- a text is within the limit of a page
+abbrev pub size_rule : ℕ → ℕ → Rule
+size_rule page size = record { field = CellLength; holds = nat_le size (text_limit page); found = size; bound = text_limit page }
 
 -- the first byte that isn't 0, and 0 where there is none
-abbrev pub first_set : List ℕ → ℕ
+unfoldable pub first_set : List ℕ → ℕ
 first_set bytes = unwrap_or (find (λ byte. not (byte == 0)) bytes) 0
 
--- behind a short text stand zeros
-abbrev pub pad_rule : List ℕ → ℕ → ℕ → Rule
-pad_rule image at size =
-    let found = first_set (slice_range image (at + 4 + size) (at + 16)) in
-    record { field = CellPad; holds = found == 0; found = found; bound = 0 }
+-- the bytes behind a short text are zeros
+abbrev pub pad_rule : List ℕ → Rule
+pad_rule bytes = record { field = CellPad; holds = first_set bytes == 0; found = first_set bytes; bound = 0 }
 
 -- a long text lies on the heap page of its part
-abbrev pub address_rule : List ℕ → ℕ → ℕ → Part → Rule
-address_rule image at size part =
-    let address = number_at image (at + 8) 8 in
+abbrev pub address_rule : ℕ → ℕ → ℕ → Part → Rule
+address_rule page size address part =
     record {
       field = CellAddress;
-      holds = not (part.heap == no_heap) && (nat_le (part.base + 64) address && nat_le (address + size) (part.base + length image));
+      holds = not (part.heap == no_heap) && (nat_le (part.base + 64) address && nat_le (address + size) (part.base + page));
       found = address;
-      bound = part.base + length image
+      bound = part.base + page
     }
+
+-- the rule on the bytes behind a text's length
+abbrev pub text_rule : List ℕ → ℕ → ℕ → Part → Rule
+text_rule image at size part =
+    if nat_le size 12
+    then pad_rule (slice_range image (at + 4 + size) (at + 16))
+    else address_rule (length image) size (number_at image (at + 8) 8) part
+
+abbrev pub text_rules : List ℕ → ℕ → ℕ → Part → List Rule
+text_rules image at size part = size_rule (length image) size ∷ text_rule image at size part ∷ []
 
 -- the rules of the cell of a kind at a place, in a row of a part
 unfoldable pub kind_rules : CellKind → List ℕ → ℕ → Part → List Rule
-kind_rules Bit image at part = bit_rule image at ∷ []
+kind_rules Bit image at part = bit_rule (slice_index image at) ∷ []
 kind_rules Four image at part = []
 kind_rules Eight image at part = []
 kind_rules Sixteen image at part = []
-kind_rules Text image at part =
-    let size = number_at image at 4 in
-    size_rule image size
-    ∷ (if nat_le size 12 then pad_rule image at size else address_rule image at size part)
-    ∷ []
+kind_rules Text image at part = text_rules image at (number_at image at 4) part
 
 -- the rules of a cell, which is tested where it isn't NULL
 unfoldable pub cell_rules : List CellKind → List ℕ → ℕ → ℕ → List Rule
