@@ -6,7 +6,7 @@ use Rattle.std.proofs.lemmas.List.FromFn.{get_or-map-range_with_len}
 use Rattle.std.proofs.lemmas.List.Sums.{sum_by-cons, sum_by_more, sum_by-take-le}
 use Rattle.row_image.specs.declared.layout.CellKind.{CellKind}
 use Rattle.row_image.specs.declared.layout.CellKind.TheVariants.{Bit, Four, Eight, Sixteen, Text}
-use Rattle.row_image.specs.Layout.{cell_width, mask_bytes, offset_of, width_of}
+use Rattle.row_image.specs.Layout.{cell_width, mask_bytes, offset_of, width_of, row_place}
 use Rattle.row_image.specs.Padded.{offsets_of}
 
 pub cell_width_most : (kind : CellKind) → cell_width kind ≤ 16
@@ -70,3 +70,7 @@ unfolding offset_of
 cells_apart kinds i j h within =
     let front : take (i + 1) (take j kinds) ≡ take (i + 1) kinds = take-take (i + 1) j kinds (omega arith) in
     omega (arith, sum_by_more cell_width kinds i Bit (omega arith), sum_by-take-le cell_width (take j kinds) (i + 1), ap (sum_by cell_width) front)
+
+pub first_place : (kinds : List CellKind) (row : ℕ) → 128 ≤ row_place kinds row
+unfolding row_place
+first_place kinds row = omega arith

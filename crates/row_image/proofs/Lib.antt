@@ -7,3 +7,5 @@ pub mod ListLemmas
 pub mod PartLemmas
 pub mod PartFacts
 pub mod CellRuleLemmas
+pub mod GrownLemmas
+pub mod WrittenLemmas
