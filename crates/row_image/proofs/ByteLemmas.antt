@@ -67,3 +67,8 @@ slice_range_same old new low high h from to p q fits =
     let b : length (slice_range old from to) ≡ to - from = length-between old from to fits in
     same_number_lists (slice_range new from to) (slice_range old from to) (a ∙ sym b)
     (λ k below. get_or-between new from to k 0 (omega arith) ∙ h.same (from + k) (omega arith) (omega arith) ∙ sym (get_or-between old from to k 0 (omega arith)))
+
+pub number_at_zeros : (image : List ℕ) (low high : ℕ) → ((k : ℕ) → low ≤ k → k < high → slice_index image k ≡ 0) → (at n : ℕ) → low ≤ at → at + n ≤ high → number_at image at n ≡ 0
+unfolding number_at
+number_at_zeros image low high h at zero p q = refl
+number_at_zeros image low high h at (suc n) p q = omega (arith, h at (omega arith) (omega arith), number_at_zeros image low high h (at + 1) n (omega arith) (omega arith))

@@ -9,3 +9,4 @@ pub mod PartFacts
 pub mod CellRuleLemmas
 pub mod GrownLemmas
 pub mod WrittenLemmas
+pub mod WrittenAccepted

@@ -97,3 +97,10 @@ with_joined old new row want h long count here others =
 pub with_begun : (old new : List ℕ) (row : ℕ) (want : Option (ℕ × ℕ)) → joins (parts_of old) want ≡ false → part_count new ≡ part_count old + 1 → part_at new (part_count old) ≡ begun row want → ((j : ℕ) → j < part_count old → part_at new j ≡ part_at old j) → parts_of new ≡ parts_with (parts_of old) row want
 unfolding parts_with
 with_begun old new row want h count here others = parts_more old new (begun row want) count here others ∙ sym (rw h)
+
+-- the parts of two images with the same entries
+pub parts_same : (old new : List ℕ) → SameOn old new 12 128 → part_count old ≤ 4 → parts_of new ≡ parts_of old
+unfolding parts_of
+parts_same old new h few =
+    ap (λ n. map (λ part. part_at new part) (range_with_len 0 n)) (number_at_same old new 12 128 h 12 4 (omega arith) (omega arith))
+    ∙ map_same (λ part. part_at new part) (λ part. part_at old part) (part_count old) (λ k inside. part_at_same old new k 12 128 h (omega arith) (omega arith))

@@ -1,6 +1,6 @@
 -- What a page is after a row was written.
 use Rattle.std.proofs.Common.{◌≡◌, ◌≢◌, ℕ, zero, suc, ◌+◌, ◌*◌, ◌-◌, ◌/◌, ◌%◌, ◌<◌, ◌≤◌, Bool, true, false, not, cond, eqb, leb, ltb, List, [], ◌∷◌, ◌++◌, length, get_or, map, Option, Some, None, pos, refl, sym, ap, subst, ◌∙◌, arith, inl, inr}
-use Rattle.std.specs.Prelude.{◌&&◌, ◌==◌, IfSome}
+use Rattle.std.specs.Prelude.{◌&&◌, ◌==◌, IfSome, slice_index}
 use Rattle.std.specs.List.{range_with_len, list_any}
 use Rattle.std.specs.Int.{bit_at}
 use Rattle.std.proofs.lemmas.Bool.{eqb-true, leb-true, le-leb, lt-ltb, eq-eqb, and_parts, and_from, and_cases, cases_lt, cases_Bool, false≢true, not-false}
@@ -14,20 +14,20 @@ use Rattle.row_image.specs.declared.cell.CellIn.{CellIn}
 use Rattle.row_image.specs.declared.cell.CellIn.TheVariants.{Null, Number}
 use Rattle.row_image.specs.declared.image.Part.{Part}
 use Rattle.row_image.specs.declared.image.ImageKind.TheVariants.{Rows}
-use Rattle.row_image.specs.Bytes.{number_at}
+use Rattle.row_image.specs.Bytes.{number_at, ChangesOnly}
 use Rattle.row_image.specs.Layout.{cell_width, is_text, mask_bytes, offset_of, width_of, has_texts, rows_that_fit, row_place}
 use Rattle.row_image.specs.Cells.{StoredCell, NullCell, NumberCell, ShortCell, LongCell, given_cell, null_number, null_bit, Takes, Meets}
 use Rattle.row_image.specs.Image.{row_count, part_count, is_null, cell_at, cell_in, stored_cell, stored_hash, StoredRow, stored_row, rows_of, part_at, parts_of, part_for, no_heap, no_part}
 use Rattle.row_image.specs.Parts.{given_row, is_long, wanted, joins, parts_with, begins_fifth, IsHeap, LiesOn, HoldsTexts}
 use Rattle.row_image.specs.Rules.{Rule, first_damage, text_limit, needs_parts, kind_rules, cell_rules, IsAccepted}
 use Rattle.row_image.specs.Stores.{StoresAt, StoresRow}
-use Rattle.row_image.proofs.ByteLemmas.{SameOn, number_at_same, same_within}
+use Rattle.row_image.proofs.ByteLemmas.{SameOn, number_at_same, number_at_before, same_within}
 use Rattle.row_image.proofs.LayoutLemmas.{width_of_least, offset_of_least, cell_ends, mask_holds, first_place}
 use Rattle.row_image.proofs.StoreLemmas.{cell_at_same}
 use Rattle.row_image.proofs.ListLemmas.{map_same}
 use Rattle.row_image.proofs.AcceptedLemmas.{HasParts, Sound, sound_of, accepted_of, row_fits}
 use Rattle.row_image.proofs.CellRuleLemmas.{KeepsHeap, LiesIn, kind_rules_same, kind_rules_moved, kind_rules_stored}
-use Rattle.row_image.proofs.PartLemmas.{parts_length}
+use Rattle.row_image.proofs.PartLemmas.{parts_length, parts_same}
 use Rattle.row_image.proofs.PartFacts.{PartFacts, facts_of, facts_sound}
 use Rattle.row_image.proofs.GrownLemmas.{Grew, joined, began, grew_of, grown_facts, old_row_keeps, HasHeap, new_row_has}
 
@@ -39,6 +39,24 @@ pub record Written (kinds : List CellKind) (old new : List ℕ) (cells : List Ce
   pub count : row_count new ≡ row_count old + 1
   pub row : StoresRow kinds new (row_place kinds (row_count old)) cells hash
   pub parts : parts_of new ≡ cond (has_texts kinds) (parts_with (parts_of old) (row_count old) (wanted cells heap)) (parts_of old)
+
+pub written_of : (kinds : List CellKind) (old mid new : List ℕ) (cells : List CellIn) (hash : ℕ) (heap want : Option (ℕ × ℕ)) →
+    want ≡ wanted cells heap → length mid ≡ length old → length new ≡ length mid → ChangesOnly old mid 12 128 →
+    parts_of mid ≡ cond (has_texts kinds) (parts_with (parts_of old) (row_count old) want) (parts_of old) → part_count mid ≤ 4 →
+    row_count new ≡ row_count mid + 1 → StoresRow kinds new (row_place kinds (row_count mid)) cells hash →
+    ((k : ℕ) → k < 8 → slice_index new k ≡ slice_index mid k) → ((k : ℕ) → 12 ≤ k → k < row_place kinds (row_count mid) → slice_index new k ≡ slice_index mid k) →
+    Written kinds old new cells hash heap
+written_of kinds old mid new cells hash heap want e long long' others parts few count row kind rest =
+    let n : row_count mid ≡ row_count old = number_at_before old mid 12 128 others 8 4 (omega arith) in
+    let place = ap (row_place kinds) n in
+    record {
+      long = long' ∙ long;
+      head = record { long = long' ∙ long; same = λ k low high. kind k high ∙ others.before k (omega arith) };
+      body = record { long = long' ∙ long; same = λ k low high. rest k (omega arith) (omega (arith, place)) ∙ others.after k low };
+      count = count ∙ ap (λ m. m + 1) n;
+      row = let P : ℕ → Type 0 = λ at. StoresRow kinds new at cells hash in subst P place row;
+      parts = parts_same mid new (record { long = long'; same = λ k low high. rest k low (omega (arith, first_place kinds (row_count mid))) }) few ∙ parts ∙ ap (λ w. cond (has_texts kinds) (parts_with (parts_of old) (row_count old) w) (parts_of old)) e
+    }
 
 pub rows_apart : (kinds : List CellKind) (row other : ℕ) → row < other → row_place kinds row + width_of kinds ≤ row_place kinds other
 unfolding row_place
@@ -73,7 +91,7 @@ cell_is null kind image at (NumberCell z) e s = ap (λ b. cond b NullCell (cell_
 cell_is null kind image at (ShortCell text) e s = ap (λ b. cond b NullCell (cell_at kind image at)) e ∙ s.0
 cell_is null kind image at (LongCell prefix size address) e s = ap (λ b. cond b NullCell (cell_at kind image at)) e ∙ s
 
-null_is : (kinds : List CellKind) (limit : ℕ) (image : List ℕ) (at : ℕ) (cells : List CellIn) (hash column : ℕ) → StoresRow kinds image at cells hash → Meets kinds limit cells → column < length kinds → is_null image at column ≡ (null_number (given_cell (get_or cells column Null)) == 1)
+pub null_is : (kinds : List CellKind) (limit : ℕ) (image : List ℕ) (at : ℕ) (cells : List CellIn) (hash column : ℕ) → StoresRow kinds image at cells hash → Meets kinds limit cells → column < length kinds → is_null image at column ≡ (null_number (given_cell (get_or cells column Null)) == 1)
 null_is kinds limit image at cells hash column s meets inside =
     s.nulls column inside ∙ ap (λ cell. null_number (given_cell cell) == 1) (get_or_default cells column (Number (pos 0)) Null (omega (arith, meets.count)))
 
@@ -100,22 +118,22 @@ written_rows kinds limit old new cells hash heap w meets fits =
     ∙ ap (λ front. front ++ given_row cells hash ∷ []) (map_same (λ row. stored_row kinds new row) (λ row. stored_row kinds old row) n (λ row less.
         stored_row_same kinds old new row (same_within old new 128 at (row_place kinds row) (row_place kinds row + width_of kinds) w.body (first_place kinds row) (rows_apart kinds row n less)) (omega (arith, rows_apart kinds row n less))))
 
-ruled : (null : Bool) (was now : List Rule) → (first_damage was ≡ None → first_damage now ≡ None) → first_damage (cond null [] was) ≡ None → first_damage (cond null [] now) ≡ None
+pub ruled : (null : Bool) (was now : List Rule) → (first_damage was ≡ None → first_damage now ≡ None) → first_damage (cond null [] was) ≡ None → first_damage (cond null [] now) ≡ None
 ruled true was now go h = refl
 ruled false was now go h = go h
 
-new_cell : (null : Bool) (rules : List Rule) (cell : StoredCell) → null ≡ (null_number cell == 1) → (cell ≢ NullCell → first_damage rules ≡ None) → first_damage (cond null [] rules) ≡ None
+pub new_cell : (null : Bool) (rules : List Rule) (cell : StoredCell) → null ≡ (null_number cell == 1) → (cell ≢ NullCell → first_damage rules ≡ None) → first_damage (cond null [] rules) ≡ None
 new_cell null rules NullCell e h = ap (λ b. first_damage (cond b [] rules)) e
 new_cell null rules (NumberCell z) e h = ap (λ b. first_damage (cond b [] rules)) e ∙ h (λ no. cc)
 new_cell null rules (ShortCell text) e h = ap (λ b. first_damage (cond b [] rules)) e ∙ h (λ no. cc)
 new_cell null rules (LongCell prefix size address) e h = ap (λ b. first_damage (cond b [] rules)) e ∙ h (λ no. cc)
 
 -- where a cell is long, its row needs the heap page
-wanted_long : (cells : List CellIn) (heap : Option (ℕ × ℕ)) (column : ℕ) → column < length cells → is_long (given_cell (get_or cells column Null)) ≡ true → wanted cells heap ≡ heap
+pub wanted_long : (cells : List CellIn) (heap : Option (ℕ × ℕ)) (column : ℕ) → column < length cells → is_long (given_cell (get_or cells column Null)) ≡ true → wanted cells heap ≡ heap
 unfolding wanted
 wanted_long cells heap column inside h = ap (λ b. cond b heap None) (list_any_at (λ cell. is_long (given_cell cell)) cells column Null inside h)
 
-lies_in : (page : ℕ) (heap : Option (ℕ × ℕ)) (part : Part) (cell : StoredCell) → LiesOn page heap cell → (is_long cell ≡ true → IfSome heap (λ h. (h.0 < no_heap) × HasHeap part h)) → LiesIn page part cell
+pub lies_in : (page : ℕ) (heap : Option (ℕ × ℕ)) (part : Part) (cell : StoredCell) → LiesOn page heap cell → (is_long cell ≡ true → IfSome heap (λ h. (h.0 < no_heap) × HasHeap part h)) → LiesIn page part cell
 lies_in page heap part NullCell on has = tt
 lies_in page heap part (NumberCell z) on has = tt
 lies_in page heap part (ShortCell text) on has = tt
@@ -124,6 +142,6 @@ lies_in page (Some heap) part (LongCell prefix size address) on has =
     let known = has refl in
     (λ e. absurd (omega (arith, known.0, known.1.number, e)), omega (arith, on.0, known.1.base), omega (arith, on.1, known.1.base))
 
-heap_known : (page : ℕ) (parts : List Part) (part : Part) (heap : Option (ℕ × ℕ)) → IfSome heap (IsHeap page parts) → ((h : ℕ × ℕ) → heap ≡ Some h → HasHeap part h) → IfSome heap (λ h. (h.0 < no_heap) × HasHeap part h)
+pub heap_known : (page : ℕ) (parts : List Part) (part : Part) (heap : Option (ℕ × ℕ)) → IfSome heap (IsHeap page parts) → ((h : ℕ × ℕ) → heap ≡ Some h → HasHeap part h) → IfSome heap (λ h. (h.0 < no_heap) × HasHeap part h)
 heap_known page parts part None is has = is
 heap_known page parts part (Some h) is has = (is.number, has h refl)

@@ -9,8 +9,10 @@ mod layout;
 mod parts;
 mod put;
 mod read;
+mod write;
 
 pub use cell::{Cell, CellIn};
 pub use image::{Damage, DamageField, ImageKind, Part, RowPut, Shape};
 pub use layout::{CellKind, Layout};
 pub use read::{read_cell, row_count, row_hash_of};
+pub use write::{new_rows, write_row};

@@ -62,6 +62,7 @@ pub fn put_part(image: &mut [u8], row: u32, want: Option<(u32, u64)>) -> bool
     ensures full { (result ≡ false) ↔ IsTrue (begins_fifth (parts_of image.old) want) }
     ensures unchanged { result ≡ false → image.new ≡ image.old }
     ensures put { result ≡ true → parts_of image.new ≡ parts_with (parts_of image.old) row want }
+    ensures few { part_count image.new ≤ 4 }
     ensures others { ChangesOnly image.old image.new 12 128 }
 {
     let parts = part_count(image);

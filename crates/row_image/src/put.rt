@@ -84,8 +84,8 @@ fn put_cell(image: &mut [u8], at: usize, kind: CellKind, cell: &CellIn)
     }
 }
 
-// Writes zeros.
-fn put_zeros(image: &mut [u8], at: usize, count: usize)
+/// Writes zeros.
+pub fn put_zeros(image: &mut [u8], at: usize, count: usize)
     requires { at + count ≤ length image.old }
     ensures others { ChangesOnly image.old image.new at (at + count) }
     ensures zeros { (k : ℕ) → at ≤ k → k < at + count → slice_index image.new k ≡ 0 }

@@ -23,6 +23,9 @@ returns-then-joins-clause-full c =
     let none = fifth_not c.args.image.now c.args.want (sym c.joins.ensures ∙ c.if-joins.true) in
     (λ e. absurd (false≢true (sym e)), λ h. absurd (false≢true (sym none ∙ h)))
 
+pub returns-then-joins-clause-few : goal.returns-then-joins-clause-few
+returns-then-joins-clause-few c = omega (arith, number_at_before c.args.image.now c.set_part.new.image (32 + 24 * (c.part_count-parts.result - 1)) (56 + 24 * (c.part_count-parts.result - 1)) c.set_part.ensures.others 12 4 (omega arith), c.requires.parts)
+
 pub returns-then-joins-clause-put : goal.returns-then-joins-clause-put
 returns-then-joins-clause-put c = λ _.
     let join = sym c.joins.ensures ∙ c.if-joins.true in
