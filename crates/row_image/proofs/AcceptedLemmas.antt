@@ -50,21 +50,23 @@ sound_of kinds image accepted =
       rows = leb-true _ _ third.0;
       parts = fourth.0;
       part = λ k below. sound_at (λ part. part_rules image part) (part_count image) k parts below;
-      cell = λ row column r c. sound_at (λ column. cell_rules kinds image row column) (length kinds) column (sound_at (λ row. row_rules kinds image row) (row_count image) row rows r) c
+      cell = λ row column r c. sound_at (λ column. cell_rules kinds image row column) (length kinds) column (sound_at (λ row. row_rules kinds image row) (row_count image) row rows r) c;
     }
 
 pub accepted_of : (kinds : List CellKind) (image : List ℕ) → Sound kinds image → IsAccepted (Rows kinds) image
 unfolding rules_of head_rules row_rules all_parts all_rows
-accepted_of kinds image s = record { sound =
-    let head : first_damage (head_rules kinds image) ≡ None =
-        cons_sound (kind_rule 1 image) (width_rule kinds image ∷ rows_rule kinds image ∷ parts_rule kinds image ∷ []) (eq-eqb _ _ s.kind)
-        (cons_sound (width_rule kinds image) (rows_rule kinds image ∷ parts_rule kinds image ∷ []) (eq-eqb _ _ s.width)
-        (cons_sound (rows_rule kinds image) (parts_rule kinds image ∷ []) (le-leb _ _ s.rows)
-        (cons_sound (parts_rule kinds image) [] s.parts refl))) in
-    let parts : first_damage (all_parts image) ≡ None = each_sound (λ part. part_rules image part) (part_count image) s.part in
-    let rows : first_damage (all_rows kinds image) ≡ None =
-        each_sound (λ row. row_rules kinds image row) (row_count image) (λ row r. each_sound (λ column. cell_rules kinds image row column) (length kinds) (λ column c. s.cell row column r c)) in
-    append_next (head_rules kinds image ++ all_parts image) (all_rows kinds image) (append_next (head_rules kinds image) (all_parts image) head ∙ parts) ∙ rows }
+accepted_of kinds image s = record {
+  sound =
+      let head : first_damage (head_rules kinds image) ≡ None =
+      cons_sound (kind_rule 1 image) (width_rule kinds image ∷ rows_rule kinds image ∷ parts_rule kinds image ∷ []) (eq-eqb _ _ s.kind)
+      (cons_sound (width_rule kinds image) (rows_rule kinds image ∷ parts_rule kinds image ∷ []) (eq-eqb _ _ s.width)
+      (cons_sound (rows_rule kinds image) (parts_rule kinds image ∷ []) (le-leb _ _ s.rows)
+      (cons_sound (parts_rule kinds image) [] s.parts refl))) in
+      let parts : first_damage (all_parts image) ≡ None = each_sound (λ part. part_rules image part) (part_count image) s.part in
+      let rows : first_damage (all_rows kinds image) ≡ None =
+      each_sound (λ row. row_rules kinds image row) (row_count image) (λ row r. each_sound (λ column. cell_rules kinds image row column) (length kinds) (λ column c. s.cell row column r c)) in
+      append_next (head_rules kinds image ++ all_parts image) (all_rows kinds image) (append_next (head_rules kinds image) (all_parts image) head ∙ parts) ∙ rows;
+}
 
 -- a row of those that fit lies on the page
 pub row_fits : (kinds : List CellKind) (page row : ℕ) → 128 ≤ page → 0 < width_of kinds → row < rows_that_fit kinds page → row_place kinds row + width_of kinds ≤ page

@@ -36,7 +36,7 @@ number_at_after old new from to h at (suc n) past = omega (arith, h.after at (om
 pub changes_joined : (a b c : List ℕ) (from to from' to' low high : ℕ) → ChangesOnly a b from to → ChangesOnly b c from' to' → low ≤ from → low ≤ from' → to ≤ high → to' ≤ high → ChangesOnly a c low high
 changes_joined a b c from to from' to' low high first second p q r s = record {
   before = λ k below. second.before k (omega arith) ∙ first.before k (omega arith);
-  after = λ k past. second.after k (omega arith) ∙ first.after k (omega arith)
+  after = λ k past. second.after k (omega arith) ∙ first.after k (omega arith);
 }
 
 pub changes_none : (a : List ℕ) (from to : ℕ) → ChangesOnly a a from to

@@ -21,8 +21,8 @@ use Rattle.row_image.proofs.RuleLemmas.{sound_cons, cons_sound}
 text_rule_same : (old new : List ℕ) (at size : ℕ) (part : Part) → SameOn old new at (at + 16) → at + 16 ≤ length old → text_rule new at size part ≡ text_rule old at size part
 text_rule_same old new at size part h fits =
     elim (leb_tells size 12) [
-      inl short ↦ rw short.0 (ap pad_rule (slice_range_same old new at (at + 16) h (at + 4 + size) (at + 16) (omega arith) (omega arith) fits))
-    | inr long ↦ rw long.0 (ap (λ page. address_rule page size (number_at new (at + 8) 8) part) h.long ∙ ap (λ a. address_rule (length old) size a part) (number_at_same old new at (at + 16) h (at + 8) 8 (omega arith) (omega arith)))
+      | inl short ↦ rw short.0 (ap pad_rule (slice_range_same old new at (at + 16) h (at + 4 + size) (at + 16) (omega arith) (omega arith) fits))
+      | inr long ↦ rw long.0 (ap (λ page. address_rule page size (number_at new (at + 8) 8) part) h.long ∙ ap (λ a. address_rule (length old) size a part) (number_at_same old new at (at + 16) h (at + 8) 8 (omega arith) (omega arith)))
     ]
 
 pub kind_rules_same : (kind : CellKind) (old new : List ℕ) (at : ℕ) (part : Part) → SameOn old new at (at + cell_width kind) → at + cell_width kind ≤ length old → kind_rules kind new at part ≡ kind_rules kind old at part
@@ -52,10 +52,10 @@ address_moved page size address old new k h =
 text_moved : (image : List ℕ) (at size : ℕ) (old new : Part) → KeepsHeap old new → (text_rule image at size old).holds ≡ true → (text_rule image at size new).holds ≡ true
 text_moved image at size old new k h =
     elim (leb_tells size 12) [
-      inl short ↦ ap (λ b. (cond b (pad_rule (slice_range image (at + 4 + size) (at + 16))) (address_rule (length image) size (number_at image (at + 8) 8) new)).holds) short.0
-        ∙ sym (ap (λ b. (cond b (pad_rule (slice_range image (at + 4 + size) (at + 16))) (address_rule (length image) size (number_at image (at + 8) 8) old)).holds) short.0) ∙ h
-    | inr long ↦ ap (λ b. (cond b (pad_rule (slice_range image (at + 4 + size) (at + 16))) (address_rule (length image) size (number_at image (at + 8) 8) new)).holds) long.0
-        ∙ address_moved (length image) size (number_at image (at + 8) 8) old new k (sym (ap (λ b. (cond b (pad_rule (slice_range image (at + 4 + size) (at + 16))) (address_rule (length image) size (number_at image (at + 8) 8) old)).holds) long.0) ∙ h)
+      | inl short ↦ ap (λ b. (cond b (pad_rule (slice_range image (at + 4 + size) (at + 16))) (address_rule (length image) size (number_at image (at + 8) 8) new)).holds) short.0
+          ∙ sym (ap (λ b. (cond b (pad_rule (slice_range image (at + 4 + size) (at + 16))) (address_rule (length image) size (number_at image (at + 8) 8) old)).holds) short.0) ∙ h
+      | inr long ↦ ap (λ b. (cond b (pad_rule (slice_range image (at + 4 + size) (at + 16))) (address_rule (length image) size (number_at image (at + 8) 8) new)).holds) long.0
+          ∙ address_moved (length image) size (number_at image (at + 8) 8) old new k (sym (ap (λ b. (cond b (pad_rule (slice_range image (at + 4 + size) (at + 16))) (address_rule (length image) size (number_at image (at + 8) 8) old)).holds) long.0) ∙ h)
     ]
 
 pub kind_rules_moved : (kind : CellKind) (image : List ℕ) (at : ℕ) (old new : Part) → KeepsHeap old new → first_damage (kind_rules kind image at old) ≡ None → first_damage (kind_rules kind image at new) ≡ None
@@ -89,37 +89,37 @@ short_stored : (image : List ℕ) (at size : ℕ) (part : Part) (text : List ℕ
 unfolding text_limit
 short_stored image at size part text fits page e zeros =
     elim (leb_tells size 12) [
-      inl short ↦
-        let cell : ShortCell (slice_range image (at + 4) (at + 4 + size)) ≡ ShortCell text = sym (ap (λ b. cond b (ShortCell (slice_range image (at + 4) (at + 4 + size))) (LongCell (slice_range image (at + 4) (at + 8)) size (number_at image (at + 8) 8))) short.0) ∙ e in
-        let same : slice_range image (at + 4) (at + 4 + size) ≡ text = cc in
-        let long : length text ≡ size = omega (arith, ap length same, length-between image (at + 4) (at + 4 + size) (omega (arith, short.1))) in
-        let pad : first_set (slice_range image (at + 4 + size) (at + 16)) ≡ 0 = first_set_none (slice_range image (at + 4 + size) (at + 16)) (λ k less.
-            let within : at + 4 + size + k < at + 16 = omega (arith, length-between image (at + 4 + size) (at + 16) fits, less) in
-            get_or-between image (at + 4 + size) (at + 16) k 0 within ∙ zeros (at + 4 + size + k) (omega arith) within) in
-        cons_sound (size_rule (length image) size) (text_rule image at size part ∷ []) (le-leb size (text_limit (length image)) (omega (arith, short.1)))
-        (cons_sound (text_rule image at size part) []
-        (ap (λ b. (cond b (pad_rule (slice_range image (at + 4 + size) (at + 16))) (address_rule (length image) size (number_at image (at + 8) 8) part)).holds) short.0 ∙ eq-eqb _ 0 pad) refl)
-    | inr long ↦
-        absurd (let cell : LongCell (slice_range image (at + 4) (at + 8)) size (number_at image (at + 8) 8) ≡ ShortCell text = sym (ap (λ b. cond b (ShortCell (slice_range image (at + 4) (at + 4 + size))) (LongCell (slice_range image (at + 4) (at + 8)) size (number_at image (at + 8) 8))) long.0) ∙ e in
-        let no : ⊥ = cc in no)
+      | inl short ↦
+          let cell : ShortCell (slice_range image (at + 4) (at + 4 + size)) ≡ ShortCell text = sym (ap (λ b. cond b (ShortCell (slice_range image (at + 4) (at + 4 + size))) (LongCell (slice_range image (at + 4) (at + 8)) size (number_at image (at + 8) 8))) short.0) ∙ e in
+          let same : slice_range image (at + 4) (at + 4 + size) ≡ text = cc in
+          let long : length text ≡ size = omega (arith, ap length same, length-between image (at + 4) (at + 4 + size) (omega (arith, short.1))) in
+          let pad : first_set (slice_range image (at + 4 + size) (at + 16)) ≡ 0 = first_set_none (slice_range image (at + 4 + size) (at + 16)) (λ k less.
+          let within : at + 4 + size + k < at + 16 = omega (arith, length-between image (at + 4 + size) (at + 16) fits, less) in
+          get_or-between image (at + 4 + size) (at + 16) k 0 within ∙ zeros (at + 4 + size + k) (omega arith) within) in
+          cons_sound (size_rule (length image) size) (text_rule image at size part ∷ []) (le-leb size (text_limit (length image)) (omega (arith, short.1)))
+          (cons_sound (text_rule image at size part) []
+          (ap (λ b. (cond b (pad_rule (slice_range image (at + 4 + size) (at + 16))) (address_rule (length image) size (number_at image (at + 8) 8) part)).holds) short.0 ∙ eq-eqb _ 0 pad) refl)
+      | inr long ↦
+          absurd (let cell : LongCell (slice_range image (at + 4) (at + 8)) size (number_at image (at + 8) 8) ≡ ShortCell text = sym (ap (λ b. cond b (ShortCell (slice_range image (at + 4) (at + 4 + size))) (LongCell (slice_range image (at + 4) (at + 8)) size (number_at image (at + 8) 8))) long.0) ∙ e in
+          let no : ⊥ = cc in no)
     ]
 
 long_stored : (image : List ℕ) (at size : ℕ) (part : Part) (prefix : List ℕ) (size' address : ℕ) → text_at image at size ≡ LongCell prefix size' address → size' ≤ text_limit (length image) → LiesIn (length image) part (LongCell prefix size' address) → first_damage (text_rules image at size part) ≡ None
 long_stored image at size part prefix size' address e most lies =
     elim (leb_tells size 12) [
-      inl short ↦
-        absurd (let cell : ShortCell (slice_range image (at + 4) (at + 4 + size)) ≡ LongCell prefix size' address = sym (ap (λ b. cond b (ShortCell (slice_range image (at + 4) (at + 4 + size))) (LongCell (slice_range image (at + 4) (at + 8)) size (number_at image (at + 8) 8))) short.0) ∙ e in
-        let no : ⊥ = cc in no)
-    | inr long ↦
-        let cell : LongCell (slice_range image (at + 4) (at + 8)) size (number_at image (at + 8) 8) ≡ LongCell prefix size' address = sym (ap (λ b. cond b (ShortCell (slice_range image (at + 4) (at + 4 + size))) (LongCell (slice_range image (at + 4) (at + 8)) size (number_at image (at + 8) 8))) long.0) ∙ e in
-        let same : size ≡ size' = cc in
-        let there : number_at image (at + 8) 8 ≡ address = cc in
-        let holds : (address_rule (length image) size (number_at image (at + 8) 8) part).holds ≡ true =
-            and_from (not (eqb part.heap no_heap)) _ (ap not (ne_eqb part.heap no_heap lies.0))
-            (and_from (leb (part.base + 64) (number_at image (at + 8) 8)) (leb (number_at image (at + 8) 8 + size) (part.base + length image)) (le-leb _ _ (omega (arith, lies.1))) (le-leb _ _ (omega (arith, lies.2)))) in
-        cons_sound (size_rule (length image) size) (text_rule image at size part ∷ []) (le-leb size (text_limit (length image)) (omega arith))
-        (cons_sound (text_rule image at size part) []
-        (ap (λ b. (cond b (pad_rule (slice_range image (at + 4 + size) (at + 16))) (address_rule (length image) size (number_at image (at + 8) 8) part)).holds) long.0 ∙ holds) refl)
+      | inl short ↦
+          absurd (let cell : ShortCell (slice_range image (at + 4) (at + 4 + size)) ≡ LongCell prefix size' address = sym (ap (λ b. cond b (ShortCell (slice_range image (at + 4) (at + 4 + size))) (LongCell (slice_range image (at + 4) (at + 8)) size (number_at image (at + 8) 8))) short.0) ∙ e in
+          let no : ⊥ = cc in no)
+      | inr long ↦
+          let cell : LongCell (slice_range image (at + 4) (at + 8)) size (number_at image (at + 8) 8) ≡ LongCell prefix size' address = sym (ap (λ b. cond b (ShortCell (slice_range image (at + 4) (at + 4 + size))) (LongCell (slice_range image (at + 4) (at + 8)) size (number_at image (at + 8) 8))) long.0) ∙ e in
+          let same : size ≡ size' = cc in
+          let there : number_at image (at + 8) 8 ≡ address = cc in
+          let holds : (address_rule (length image) size (number_at image (at + 8) 8) part).holds ≡ true =
+          and_from (not (eqb part.heap no_heap)) _ (ap not (ne_eqb part.heap no_heap lies.0))
+          (and_from (leb (part.base + 64) (number_at image (at + 8) 8)) (leb (number_at image (at + 8) 8 + size) (part.base + length image)) (le-leb _ _ (omega (arith, lies.1))) (le-leb _ _ (omega (arith, lies.2)))) in
+          cons_sound (size_rule (length image) size) (text_rule image at size part ∷ []) (le-leb size (text_limit (length image)) (omega arith))
+          (cons_sound (text_rule image at size part) []
+          (ap (λ b. (cond b (pad_rule (slice_range image (at + 4 + size) (at + 16))) (address_rule (length image) size (number_at image (at + 8) 8) part)).holds) long.0 ∙ holds) refl)
     ]
 
 -- the rules of a cell that was written

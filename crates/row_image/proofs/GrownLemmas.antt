@@ -34,32 +34,32 @@ pub grew_of : (old new : List ℕ) (row : ℕ) (want : Option (ℕ × ℕ)) → 
 unfolding parts_with
 grew_of old new row want e =
     elim (cases_Bool (joins (parts_of old) want)) [
-      inl join ↦
-        let some = joins_counted old want join in
-        let n = part_count old in
-        let put : parts_of new ≡ set (parts_of old) (length (parts_of old) - 1) (grown (last_part (parts_of old)) want) =
-            e ∙ ap (λ b. cond b (set (parts_of old) (length (parts_of old) - 1) (grown (last_part (parts_of old)) want)) (parts_of old ++ begun row want ∷ [])) join in
-        let put' : parts_of new ≡ set (parts_of old) (n - 1) (grown (part_at old (n - 1)) want) =
-            put ∙ ap (λ p. set (parts_of old) (length (parts_of old) - 1) (grown p want)) (last_is old some) ∙ ap (λ k. set (parts_of old) (k - 1) (grown (part_at old (n - 1)) want)) (parts_length old) in
-        let count : part_count new ≡ n = sym (parts_length new) ∙ ap length put' ∙ length-set (parts_of old) (n - 1) (grown (part_at old (n - 1)) want) ∙ parts_length old in
-        joined (record {
-          some = some;
-          takes = sym (joins_some old want some) ∙ join;
-          count = count;
-          last = sym (parts_at new (n - 1) no_part (omega arith)) ∙ ap (λ ps. get_or ps (n - 1) no_part) put' ∙ get_or-set_same (parts_of old) (n - 1) (grown (part_at old (n - 1)) want) no_part (omega (arith, parts_length old));
-          others = λ j less. sym (parts_at new j no_part (omega arith)) ∙ ap (λ ps. get_or ps j no_part) put' ∙ get_or-set_other (parts_of old) (n - 1) j (grown (part_at old (n - 1)) want) no_part (let ne : j ≢ n - 1 = omega arith in ne) ∙ parts_at old j no_part (omega arith)
-        })
-    | inr begins ↦
-        let n = part_count old in
-        let put : parts_of new ≡ parts_of old ++ begun row want ∷ [] =
-            e ∙ ap (λ b. cond b (set (parts_of old) (length (parts_of old) - 1) (grown (last_part (parts_of old)) want)) (parts_of old ++ begun row want ∷ [])) begins in
-        let count : part_count new ≡ n + 1 = sym (parts_length new) ∙ ap length put ∙ length_push (parts_of old) (begun row want) ∙ ap (λ k. k + 1) (parts_length old) in
-        began (record {
-          begins = begins;
-          count = count;
-          last = sym (parts_at new n no_part (omega arith)) ∙ ap (λ ps. get_or ps n no_part) put ∙ get_or_push (parts_of old) (begun row want) no_part n (parts_length old);
-          others = λ j less. sym (parts_at new j no_part (omega arith)) ∙ ap (λ ps. get_or ps j no_part) put ∙ get_or_append_left (parts_of old) (begun row want ∷ []) no_part j (omega (arith, parts_length old)) ∙ parts_at old j no_part less
-        })
+      | inl join ↦
+          let some = joins_counted old want join in
+          let n = part_count old in
+          let put : parts_of new ≡ set (parts_of old) (length (parts_of old) - 1) (grown (last_part (parts_of old)) want) =
+          e ∙ ap (λ b. cond b (set (parts_of old) (length (parts_of old) - 1) (grown (last_part (parts_of old)) want)) (parts_of old ++ begun row want ∷ [])) join in
+          let put' : parts_of new ≡ set (parts_of old) (n - 1) (grown (part_at old (n - 1)) want) =
+          put ∙ ap (λ p. set (parts_of old) (length (parts_of old) - 1) (grown p want)) (last_is old some) ∙ ap (λ k. set (parts_of old) (k - 1) (grown (part_at old (n - 1)) want)) (parts_length old) in
+          let count : part_count new ≡ n = sym (parts_length new) ∙ ap length put' ∙ length-set (parts_of old) (n - 1) (grown (part_at old (n - 1)) want) ∙ parts_length old in
+          joined (record {
+            some = some;
+            takes = sym (joins_some old want some) ∙ join;
+            count = count;
+            last = sym (parts_at new (n - 1) no_part (omega arith)) ∙ ap (λ ps. get_or ps (n - 1) no_part) put' ∙ get_or-set_same (parts_of old) (n - 1) (grown (part_at old (n - 1)) want) no_part (omega (arith, parts_length old));
+            others = λ j less. sym (parts_at new j no_part (omega arith)) ∙ ap (λ ps. get_or ps j no_part) put' ∙ get_or-set_other (parts_of old) (n - 1) j (grown (part_at old (n - 1)) want) no_part (let ne : j ≢ n - 1 = omega arith in ne) ∙ parts_at old j no_part (omega arith);
+          })
+      | inr begins ↦
+          let n = part_count old in
+          let put : parts_of new ≡ parts_of old ++ begun row want ∷ [] =
+          e ∙ ap (λ b. cond b (set (parts_of old) (length (parts_of old) - 1) (grown (last_part (parts_of old)) want)) (parts_of old ++ begun row want ∷ [])) begins in
+          let count : part_count new ≡ n + 1 = sym (parts_length new) ∙ ap length put ∙ length_push (parts_of old) (begun row want) ∙ ap (λ k. k + 1) (parts_length old) in
+          began (record {
+            begins = begins;
+            count = count;
+            last = sym (parts_at new n no_part (omega arith)) ∙ ap (λ ps. get_or ps n no_part) put ∙ get_or_push (parts_of old) (begun row want) no_part n (parts_length old);
+            others = λ j less. sym (parts_at new j no_part (omega arith)) ∙ ap (λ ps. get_or ps j no_part) put ∙ get_or_append_left (parts_of old) (begun row want ∷ []) no_part j (omega (arith, parts_length old)) ∙ parts_at old j no_part less;
+          })
     ]
 
 -- a base that is handed in
@@ -97,18 +97,18 @@ pub grown_keeps : (page : ℕ) (parts : List Part) (part : Part) (want : Option 
 grown_keeps page parts part None takes known = record { heap = λ there. refl; base = λ there. refl }
 grown_keeps page parts part (Some heap) takes known =
     elim (or_cases (eqb part.heap no_heap) (eqb part.heap heap.0) takes) [
-      inl none ↦ record { heap = λ there. absurd (there (eqb-true part.heap no_heap none)); base = λ there. absurd (there (eqb-true part.heap no_heap none)) }
-    | inr same ↦ record { heap = λ there. sym (eqb-true part.heap heap.0 same); base = λ there. sym (known (eqb-true part.heap heap.0 same)) }
+      | inl none ↦ record { heap = λ there. absurd (there (eqb-true part.heap no_heap none)); base = λ there. absurd (there (eqb-true part.heap no_heap none)) }
+      | inr same ↦ record { heap = λ there. sym (eqb-true part.heap heap.0 same); base = λ there. sym (known (eqb-true part.heap heap.0 same)) }
     ]
 
 -- the parts of an image have all its rows
 pub all_rows : (image : List ℕ) → (0 < row_count image → 0 < part_count image) → ((k : ℕ) → k < part_count image → PartFacts image k) → rows_before image (part_count image) ≡ row_count image
 all_rows image some facts =
     elim (cases_eq (part_count image) 0) [
-      inl none ↦ ap (rows_before image) none ∙ before_none image ∙ elim (cases_eq (row_count image) 0) [ inl e ↦ sym e | inr ne ↦ absurd (let there : 0 < row_count image = omega arith in let more = some there in omega arith) ]
-    | inr more ↦
-        let last : part_count image - 1 + 1 ≡ part_count image = omega arith in
-        omega (arith, (facts (part_count image - 1) (omega arith)).whole last, before_next image (part_count image - 1), ap (rows_before image) last)
+      | inl none ↦ ap (rows_before image) none ∙ before_none image ∙ elim (cases_eq (row_count image) 0) [ inl e ↦ sym e | inr ne ↦ absurd (let there : 0 < row_count image = omega arith in let more = some there in omega arith) ]
+      | inr more ↦
+          let last : part_count image - 1 + 1 ≡ part_count image = omega arith in
+          omega (arith, (facts (part_count image - 1) (omega arith)).whole last, before_next image (part_count image - 1), ap (rows_before image) last)
     ]
 
 joined_facts : (old new : List ℕ) (want : Option (ℕ × ℕ)) → Joined old new want → length new ≡ length old → row_count new ≡ row_count old + 1 → IfSome want (IsHeap (length old) (parts_of old)) → ((k : ℕ) → k < part_count old → PartFacts old k) → (k : ℕ) → k < part_count new → PartFacts new k
@@ -117,26 +117,26 @@ joined_facts old new want w long rows heap facts k inside =
     let before : rows_before new k ≡ rows_before old k = before_same old new k (λ j less. w.others j (omega (arith, w.count))) in
     let f = facts k (omega (arith, w.count)) in
     elim (cases_lt k (n - 1)) [
-      inl less ↦
-        let same = w.others k less in
-        record {
-          first = ap (λ p. p.first) same ∙ f.first ∙ sym before;
-          some = omega (arith, ap (λ p. p.rows) same, f.some);
-          most = omega (arith, ap (λ p. p.rows) same, f.most, before, rows);
-          whole = λ e. absurd (omega (arith, w.count, w.some));
-          base = let P : Part → Type 0 = λ p. HasBase (length old) p in let Q : ℕ → Type 0 = λ page. HasBase page (part_at new k) in subst Q (sym long) (subst P (sym same) f.base)
-        }
-    | inr more ↦
-        let is : k ≡ n - 1 = omega (arith, w.count) in
-        let same : part_at new k ≡ grown (part_at old k) want = ap (part_at new) is ∙ w.last ∙ ap (λ j. grown (part_at old j) want) (sym is) in
-        let r = ap (λ p. p.rows) same ∙ grown_rows (part_at old k) want in
-        record {
-          first = ap (λ p. p.first) same ∙ grown_first (part_at old k) want ∙ f.first ∙ sym before;
-          some = omega (arith, r);
-          most = omega (arith, r, f.most, before, rows);
-          whole = λ e. omega (arith, r, f.whole (omega (arith, w.count, w.some)), before, rows);
-          base = let P : Part → Type 0 = λ p. HasBase (length old) p in let Q : ℕ → Type 0 = λ page. HasBase page (part_at new k) in subst Q (sym long) (subst P (sym same) (grown_base (length old) (parts_of old) (part_at old k) want f.base heap))
-        }
+      | inl less ↦
+          let same = w.others k less in
+          record {
+            first = ap (λ p. p.first) same ∙ f.first ∙ sym before;
+            some = omega (arith, ap (λ p. p.rows) same, f.some);
+            most = omega (arith, ap (λ p. p.rows) same, f.most, before, rows);
+            whole = λ e. absurd (omega (arith, w.count, w.some));
+            base = let P : Part → Type 0 = λ p. HasBase (length old) p in let Q : ℕ → Type 0 = λ page. HasBase page (part_at new k) in subst Q (sym long) (subst P (sym same) f.base);
+          }
+      | inr more ↦
+          let is : k ≡ n - 1 = omega (arith, w.count) in
+          let same : part_at new k ≡ grown (part_at old k) want = ap (part_at new) is ∙ w.last ∙ ap (λ j. grown (part_at old j) want) (sym is) in
+          let r = ap (λ p. p.rows) same ∙ grown_rows (part_at old k) want in
+          record {
+            first = ap (λ p. p.first) same ∙ grown_first (part_at old k) want ∙ f.first ∙ sym before;
+            some = omega (arith, r);
+            most = omega (arith, r, f.most, before, rows);
+            whole = λ e. omega (arith, r, f.whole (omega (arith, w.count, w.some)), before, rows);
+            base = let P : Part → Type 0 = λ p. HasBase (length old) p in let Q : ℕ → Type 0 = λ page. HasBase page (part_at new k) in subst Q (sym long) (subst P (sym same) (grown_base (length old) (parts_of old) (part_at old k) want f.base heap));
+          }
     ]
 
 begun_facts : (old new : List ℕ) (want : Option (ℕ × ℕ)) → Begun old new (row_count old) want → (0 < row_count old → 0 < part_count old) → length new ≡ length old → row_count new ≡ row_count old + 1 → IfSome want (IsHeap (length old) (parts_of old)) → ((k : ℕ) → k < part_count old → PartFacts old k) → (k : ℕ) → k < part_count new → PartFacts new k
@@ -144,28 +144,28 @@ begun_facts old new want w some long rows heap facts k inside =
     let n = part_count old in
     let before : rows_before new k ≡ rows_before old k = before_same old new k (λ j less. w.others j (omega (arith, w.count))) in
     elim (cases_lt k n) [
-      inl less ↦
-        let same = w.others k less in
-        let f = facts k less in
-        record {
-          first = ap (λ p. p.first) same ∙ f.first ∙ sym before;
-          some = omega (arith, ap (λ p. p.rows) same, f.some);
-          most = omega (arith, ap (λ p. p.rows) same, f.most, before, rows);
-          whole = λ e. absurd (omega (arith, w.count));
-          base = let P : Part → Type 0 = λ p. HasBase (length old) p in let Q : ℕ → Type 0 = λ page. HasBase page (part_at new k) in subst Q (sym long) (subst P (sym same) f.base)
-        }
-    | inr more ↦
-        let is : k ≡ n = omega (arith, w.count) in
-        let same : part_at new k ≡ begun (row_count old) want = ap (part_at new) is ∙ w.last in
-        let all : rows_before old k ≡ row_count old = ap (rows_before old) is ∙ all_rows old some facts in
-        let r = ap (λ p. p.rows) same ∙ begun_rows (row_count old) want in
-        record {
-          first = ap (λ p. p.first) same ∙ begun_first (row_count old) want ∙ sym all ∙ sym before;
-          some = omega (arith, r);
-          most = omega (arith, r, all, before, rows);
-          whole = λ e. omega (arith, r, all, before, rows);
-          base = let P : Part → Type 0 = λ p. HasBase (length old) p in let Q : ℕ → Type 0 = λ page. HasBase page (part_at new k) in subst Q (sym long) (subst P (sym same) (begun_base (length old) (parts_of old) (row_count old) want heap))
-        }
+      | inl less ↦
+          let same = w.others k less in
+          let f = facts k less in
+          record {
+            first = ap (λ p. p.first) same ∙ f.first ∙ sym before;
+            some = omega (arith, ap (λ p. p.rows) same, f.some);
+            most = omega (arith, ap (λ p. p.rows) same, f.most, before, rows);
+            whole = λ e. absurd (omega (arith, w.count));
+            base = let P : Part → Type 0 = λ p. HasBase (length old) p in let Q : ℕ → Type 0 = λ page. HasBase page (part_at new k) in subst Q (sym long) (subst P (sym same) f.base);
+          }
+      | inr more ↦
+          let is : k ≡ n = omega (arith, w.count) in
+          let same : part_at new k ≡ begun (row_count old) want = ap (part_at new) is ∙ w.last in
+          let all : rows_before old k ≡ row_count old = ap (rows_before old) is ∙ all_rows old some facts in
+          let r = ap (λ p. p.rows) same ∙ begun_rows (row_count old) want in
+          record {
+            first = ap (λ p. p.first) same ∙ begun_first (row_count old) want ∙ sym all ∙ sym before;
+            some = omega (arith, r);
+            most = omega (arith, r, all, before, rows);
+            whole = λ e. omega (arith, r, all, before, rows);
+            base = let P : Part → Type 0 = λ p. HasBase (length old) p in let Q : ℕ → Type 0 = λ page. HasBase page (part_at new k) in subst Q (sym long) (subst P (sym same) (begun_base (length old) (parts_of old) (row_count old) want heap));
+          }
     ]
 
 pub grown_facts : (old new : List ℕ) (want : Option (ℕ × ℕ)) → Grew old new (row_count old) want → (0 < row_count old → 0 < part_count old) → length new ≡ length old → row_count new ≡ row_count old + 1 → IfSome want (IsHeap (length old) (parts_of old)) → ((k : ℕ) → k < part_count old → PartFacts old k) → (k : ℕ) → k < part_count new → PartFacts new k
@@ -187,19 +187,19 @@ old_row_keeps old new want row (joined w) some heap facts facts' below =
     let before : rows_before new c.part ≡ rows_before old c.part = before_same old new c.part (λ j less. w.others j (omega (arith, c.inside))) in
     let was = part_for_is old c.part row facts c.inside c.low c.high in
     elim (cases_lt c.part (n - 1)) [
-      inl less ↦
-        let same = w.others c.part less in
-        let now = part_for_is new c.part row facts' (omega (arith, c.inside, w.count)) (omega (arith, before, c.low)) (omega (arith, before, c.high, ap (λ p. p.rows) same)) in
-        keeps_same (part_for old row) (part_for new row) (now ∙ same ∙ sym was)
-    | inr more ↦
-        let is : c.part ≡ n - 1 = omega (arith, c.inside) in
-        let same : part_at new c.part ≡ grown (part_at old c.part) want = ap (part_at new) is ∙ w.last ∙ ap (λ j. grown (part_at old j) want) (sym is) in
-        let now = part_for_is new c.part row facts' (omega (arith, c.inside, w.count)) (omega (arith, before, c.low)) (omega (arith, before, c.high, ap (λ p. p.rows) same, grown_rows (part_at old c.part) want)) in
-        let P : ℕ → Type 0 = λ j. KeepsHeap (part_at old j) (grown (part_at old j) want) in
-        let k : KeepsHeap (part_at old c.part) (grown (part_at old c.part) want) = subst P (sym is) (grown_keeps (length old) (parts_of old) (part_at old (n - 1)) want w.takes (last_known (length old) old want w.some heap)) in
-        let Q : Part → Type 0 = λ p. KeepsHeap p (part_for new row) in
-        let R : Part → Type 0 = λ p. KeepsHeap (part_at old c.part) p in
-        subst Q (sym was) (subst R (sym (now ∙ same)) k)
+      | inl less ↦
+          let same = w.others c.part less in
+          let now = part_for_is new c.part row facts' (omega (arith, c.inside, w.count)) (omega (arith, before, c.low)) (omega (arith, before, c.high, ap (λ p. p.rows) same)) in
+          keeps_same (part_for old row) (part_for new row) (now ∙ same ∙ sym was)
+      | inr more ↦
+          let is : c.part ≡ n - 1 = omega (arith, c.inside) in
+          let same : part_at new c.part ≡ grown (part_at old c.part) want = ap (part_at new) is ∙ w.last ∙ ap (λ j. grown (part_at old j) want) (sym is) in
+          let now = part_for_is new c.part row facts' (omega (arith, c.inside, w.count)) (omega (arith, before, c.low)) (omega (arith, before, c.high, ap (λ p. p.rows) same, grown_rows (part_at old c.part) want)) in
+          let P : ℕ → Type 0 = λ j. KeepsHeap (part_at old j) (grown (part_at old j) want) in
+          let k : KeepsHeap (part_at old c.part) (grown (part_at old c.part) want) = subst P (sym is) (grown_keeps (length old) (parts_of old) (part_at old (n - 1)) want w.takes (last_known (length old) old want w.some heap)) in
+          let Q : Part → Type 0 = λ p. KeepsHeap p (part_for new row) in
+          let R : Part → Type 0 = λ p. KeepsHeap (part_at old c.part) p in
+          subst Q (sym was) (subst R (sym (now ∙ same)) k)
     ]
 old_row_keeps old new want row (began w) some heap facts facts' below =
     let n = part_count old in

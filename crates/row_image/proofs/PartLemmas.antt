@@ -36,8 +36,8 @@ part_at_same old new k low high h p q =
 pub part_at_other : (old new : List ℕ) (k j : ℕ) → length new ≡ length old → ChangesOnly old new (32 + 24 * k) (56 + 24 * k) → j ≢ k → part_at new j ≡ part_at old j
 part_at_other old new k j long h other =
     elim (cases_lt j k) [
-      inl less ↦ part_at_same old new j (32 + 24 * j) (56 + 24 * j) (same_before old new (32 + 24 * k) (56 + 24 * k) (32 + 24 * j) (56 + 24 * j) long h (omega arith)) (omega arith) (omega arith)
-    | inr more ↦ part_at_same old new j (32 + 24 * j) (56 + 24 * j) (same_after old new (32 + 24 * k) (56 + 24 * k) (32 + 24 * j) (56 + 24 * j) long h (omega arith)) (omega arith) (omega arith)
+      | inl less ↦ part_at_same old new j (32 + 24 * j) (56 + 24 * j) (same_before old new (32 + 24 * k) (56 + 24 * k) (32 + 24 * j) (56 + 24 * j) long h (omega arith)) (omega arith) (omega arith)
+      | inr more ↦ part_at_same old new j (32 + 24 * j) (56 + 24 * j) (same_after old new (32 + 24 * k) (56 + 24 * k) (32 + 24 * j) (56 + 24 * j) long h (omega arith)) (omega arith) (omega arith)
     ]
 
 -- one part's entry was written, and the count stays
@@ -45,11 +45,11 @@ pub parts_set : (old new : List ℕ) (k : ℕ) (value : Part) → part_count new
 parts_set old new k value count inside here others =
     same_lists (parts_of new) (set (parts_of old) k value) (parts_length new ∙ count ∙ sym (length-set (parts_of old) k value ∙ parts_length old))
     (λ j d below.
-      let within : j < part_count new = omega (arith, parts_length new) in
-      elim (cases_eq j k) [
-        inl e ↦ parts_at new j d within ∙ ap (part_at new) e ∙ here ∙ (let room : k < length (parts_of old) = omega (arith, parts_length old) in sym (ap (λ i. get_or (set (parts_of old) k value) i d) e ∙ get_or-set_same (parts_of old) k value d room))
+    let within : j < part_count new = omega (arith, parts_length new) in
+    elim (cases_eq j k) [
+      | inl e ↦ parts_at new j d within ∙ ap (part_at new) e ∙ here ∙ (let room : k < length (parts_of old) = omega (arith, parts_length old) in sym (ap (λ i. get_or (set (parts_of old) k value) i d) e ∙ get_or-set_same (parts_of old) k value d room))
       | inr ne ↦ parts_at new j d within ∙ others j ne ∙ sym (get_or-set_other (parts_of old) k j value d ne ∙ parts_at old j d (omega arith))
-      ])
+    ])
 
 -- a part's entry was written behind the others
 pub parts_more : (old new : List ℕ) (value : Part) → part_count new ≡ part_count old + 1 → part_at new (part_count old) ≡ value → ((j : ℕ) → j < part_count old → part_at new j ≡ part_at old j) → parts_of new ≡ parts_of old ++ value ∷ []

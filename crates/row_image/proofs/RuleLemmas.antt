@@ -49,16 +49,16 @@ at_from : (F : ℕ → List Rule) (a n k : ℕ) → a ≤ k → k < a + n → fi
 at_from F a zero k low high h = absurd (omega arith)
 at_from F a (suc n) k low high h =
     elim (cases_eq a k) [
-      inl e ↦ let P : ℕ → Type 0 = λ j. first_damage (F j) ≡ None in subst P e (sound_front (F a) (flat_map F (range_with_len (a + 1) n)) h)
-    | inr ne ↦ at_from F (a + 1) n k (omega arith) (omega arith) (sound_back (F a) (flat_map F (range_with_len (a + 1) n)) h)
+      | inl e ↦ let P : ℕ → Type 0 = λ j. first_damage (F j) ≡ None in subst P e (sound_front (F a) (flat_map F (range_with_len (a + 1) n)) h)
+      | inr ne ↦ at_from F (a + 1) n k (omega arith) (omega arith) (sound_back (F a) (flat_map F (range_with_len (a + 1) n)) h)
     ]
 
 damaged_from : (F : ℕ → List Rule) (a n k : ℕ) (damage : Damage) → a ≤ k → k < a + n → ((j : ℕ) → a ≤ j → j < k → first_damage (F j) ≡ None) → first_damage (F k) ≡ Some damage → first_damage (flat_map F (range_with_len a n)) ≡ Some damage
 damaged_from F a zero k damage low high h e = absurd (omega arith)
 damaged_from F a (suc n) k damage low high h e =
     elim (cases_eq a k) [
-      inl same ↦ let P : ℕ → Type 0 = λ j. first_damage (F j) ≡ Some damage in append_damaged (F a) (flat_map F (range_with_len (a + 1) n)) damage (subst P (sym same) e)
-    | inr ne ↦ append_next (F a) (flat_map F (range_with_len (a + 1) n)) (h a (omega arith) (omega arith)) ∙ damaged_from F (a + 1) n k damage (omega arith) (omega arith) (λ j from below. h j (omega arith) below) e
+      | inl same ↦ let P : ℕ → Type 0 = λ j. first_damage (F j) ≡ Some damage in append_damaged (F a) (flat_map F (range_with_len (a + 1) n)) damage (subst P (sym same) e)
+      | inr ne ↦ append_next (F a) (flat_map F (range_with_len (a + 1) n)) (h a (omega arith) (omega arith)) ∙ damaged_from F (a + 1) n k damage (omega arith) (omega arith) (λ j from below. h j (omega arith) below) e
     ]
 
 -- the rules of 0, 1, .. below n all hold

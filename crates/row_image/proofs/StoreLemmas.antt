@@ -57,9 +57,9 @@ cell_at_long image at prefix size address e long first place =
 text_at_same : (old new : List ℕ) (at size : ℕ) → SameOn old new at (at + 16) → at + 16 ≤ length old → text_at new at size ≡ text_at old at size
 text_at_same old new at size h fits =
     elim (leb_tells size 12) [
-      inl short ↦ rw short.0 (ap ShortCell (slice_range_same old new at (at + 16) h (at + 4) (at + 4 + size) (omega arith) (omega (arith, short.1)) (omega (arith, short.1))))
-    | inr long ↦ rw long.0 (ap (λ p. LongCell p size (number_at new (at + 8) 8)) (slice_range_same old new at (at + 16) h (at + 4) (at + 8) (omega arith) (omega arith) (omega arith))
-      ∙ ap (LongCell (slice_range old (at + 4) (at + 8)) size) (number_at_same old new at (at + 16) h (at + 8) 8 (omega arith) (omega arith)))
+      | inl short ↦ rw short.0 (ap ShortCell (slice_range_same old new at (at + 16) h (at + 4) (at + 4 + size) (omega arith) (omega (arith, short.1)) (omega (arith, short.1))))
+      | inr long ↦ rw long.0 (ap (λ p. LongCell p size (number_at new (at + 8) 8)) (slice_range_same old new at (at + 16) h (at + 4) (at + 8) (omega arith) (omega arith) (omega arith))
+          ∙ ap (LongCell (slice_range old (at + 4) (at + 8)) size) (number_at_same old new at (at + 16) h (at + 8) 8 (omega arith) (omega arith)))
     ]
 
 -- what stands before a write, or behind it, is kept

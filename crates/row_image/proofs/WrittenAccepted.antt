@@ -62,8 +62,8 @@ few_parts old new row want (joined w) most room = (omega (arith, w.some, w.count
 few_parts old new row want (began w) most room =
     let both : (not (joins (parts_of old) want) && (length (parts_of old) == 4)) ≡ false = room in
     elim (and_cases (not (joins (parts_of old) want)) (length (parts_of old) == 4) both) [
-      inl joins_it ↦ absurd (false≢true (sym w.begins ∙ not-false (joins (parts_of old) want) joins_it))
-    | inr other ↦ let ne : length (parts_of old) ≢ 4 = eqb-false (length (parts_of old)) 4 other in (omega (arith, w.count), omega (arith, w.count, parts_length old, ne))
+      | inl joins_it ↦ absurd (false≢true (sym w.begins ∙ not-false (joins (parts_of old) want) joins_it))
+      | inr other ↦ let ne : length (parts_of old) ≢ 4 = eqb-false (length (parts_of old)) 4 other in (omega (arith, w.count), omega (arith, w.count, parts_length old, ne))
     ]
 
 text_column : (kinds : List CellKind) (column : ℕ) → column < length kinds → get_or kinds column Bit ≡ Text → has_texts kinds ≡ true
@@ -101,7 +101,7 @@ parts_after_texts kinds old new cells hash heap w s is room texts =
       has = has_parts kinds new texts (omega (arith, w.count)) few.0 few.1;
       facts = facts';
       keeps = λ row below. old_row_keeps old new want row g some known facts facts' below;
-      held = λ t h e. grew_has old new want g some facts facts' h e
+      held = λ t h e. grew_has old new want g some facts facts' h e;
     }
 
 parts_after_none : (kinds : List CellKind) (old new : List ℕ) (cells : List CellIn) (hash : ℕ) (heap : Option (ℕ × ℕ)) → Written kinds old new cells hash heap → Sound kinds old → has_texts kinds ≡ false → PartsAfter kinds old new cells heap
@@ -113,15 +113,15 @@ parts_after_none kinds old new cells hash heap w s texts =
       has = no_parts kinds new texts count;
       facts = λ k inside. absurd (omega (arith, count, inside));
       keeps = λ row below. let e : part_for new row ≡ part_for old row = ap (λ ps. unwrap_or (find (λ part. ltb row (part.first + part.rows)) ps) no_part) same in
-        record { heap = λ there. ap (λ p. p.heap) e; base = λ there. ap (λ p. p.base) e };
-      held = λ t. absurd (false≢true (sym texts ∙ t))
+          record { heap = λ there. ap (λ p. p.heap) e; base = λ there. ap (λ p. p.base) e };
+      held = λ t. absurd (false≢true (sym texts ∙ t));
     }
 
 pub parts_after : (kinds : List CellKind) (old new : List ℕ) (cells : List CellIn) (hash : ℕ) (heap : Option (ℕ × ℕ)) → Written kinds old new cells hash heap → Sound kinds old → IfSome heap (IsHeap (length old) (parts_of old)) → begins_fifth (parts_of old) (wanted cells heap) ≡ false → PartsAfter kinds old new cells heap
 parts_after kinds old new cells hash heap w s is room =
     elim (cases_Bool (has_texts kinds)) [
-      inl texts ↦ parts_after_texts kinds old new cells hash heap w s is room texts
-    | inr none ↦ parts_after_none kinds old new cells hash heap w s none
+      | inl texts ↦ parts_after_texts kinds old new cells hash heap w s is room texts
+      | inr none ↦ parts_after_none kinds old new cells hash heap w s none
     ]
 
 old_cell : (kinds : List CellKind) (old new : List ℕ) (row column : ℕ) → KeepsHeap (part_for old row) (part_for new row) → SameOn old new (row_place kinds row) (row_place kinds row + width_of kinds) → row_place kinds row + width_of kinds ≤ length old → column < length kinds → first_damage (cell_rules kinds old row column) ≡ None → first_damage (cell_rules kinds new row column) ≡ None
@@ -147,13 +147,13 @@ written_cell kinds old new cells hash heap column w p meets holds page fits insi
     let counted : column < length cells = omega (arith, meets.count) in
     new_cell (is_null new at column) (kind_rules kind new place (part_for new row)) cell (null_is kinds (text_limit (length old)) new at cells hash column w.row meets inside)
     (λ there.
-      let takes : Takes kind (text_limit (length new)) cell = let P : ℕ → Type 0 = λ n. Takes kind (text_limit n) cell in subst P (sym w.long) (meets.each column inside) in
-      kind_rules_stored kind new place (part_for new row) cell (omega (arith, w.long, cell_ends kinds column inside)) (omega (arith, w.long)) there takes (w.row.stored column inside)
-      (λ is_text_kind.
-        let texts = text_column kinds column inside is_text_kind in
-        let P : ℕ → Type 0 = λ n. LiesIn n (part_for new row) cell in
-        subst P (sym w.long) (lies_in (length old) heap (part_for new row) cell (holds.each column counted)
-        (λ long. heap_known (length old) (parts_of old) (part_for new row) heap holds.is (λ h e. p.held texts h (wanted_long cells heap column counted long ∙ e))))))
+    let takes : Takes kind (text_limit (length new)) cell = let P : ℕ → Type 0 = λ n. Takes kind (text_limit n) cell in subst P (sym w.long) (meets.each column inside) in
+    kind_rules_stored kind new place (part_for new row) cell (omega (arith, w.long, cell_ends kinds column inside)) (omega (arith, w.long)) there takes (w.row.stored column inside)
+    (λ is_text_kind.
+    let texts = text_column kinds column inside is_text_kind in
+    let P : ℕ → Type 0 = λ n. LiesIn n (part_for new row) cell in
+    subst P (sym w.long) (lies_in (length old) heap (part_for new row) cell (holds.each column counted)
+    (λ long. heap_known (length old) (parts_of old) (part_for new row) heap holds.is (λ h e. p.held texts h (wanted_long cells heap column counted long ∙ e))))))
 
 pub written_accepted : (kinds : List CellKind) (old new : List ℕ) (cells : List CellIn) (hash : ℕ) (heap : Option (ℕ × ℕ)) → Written kinds old new cells hash heap → IsAccepted (Rows kinds) old → Meets kinds (text_limit (length old)) cells → HoldsTexts (length old) (parts_of old) cells heap → begins_fifth (parts_of old) (wanted cells heap) ≡ false → row_count old < rows_that_fit kinds (length old) → 4096 ≤ length old → IsAccepted (Rows kinds) new
 written_accepted kinds old new cells hash heap w accepted meets holds room below page =
@@ -169,10 +169,10 @@ written_accepted kinds old new cells hash heap w accepted meets holds room below
       parts = p.has;
       part = λ k inside. facts_sound new k (p.facts k inside);
       cell = λ row column r c.
-        elim (cases_lt row n) [
-          inl less ↦ old_cell kinds old new row column (p.keeps row less) (same_within old new 128 (row_place kinds n) (row_place kinds row) (row_place kinds row + width_of kinds) w.body (first_place kinds row) (rows_apart kinds row n less)) (omega (arith, rows_apart kinds row n less)) c (s.cell row column less c)
-        | inr more ↦ let is : row ≡ n = omega (arith, w.count) in let P : ℕ → Type 0 = λ r. first_damage (cell_rules kinds new r column) ≡ None in subst P (sym is) (written_cell kinds old new cells hash heap column w p meets holds page fits c)
-        ]
+          elim (cases_lt row n) [
+            | inl less ↦ old_cell kinds old new row column (p.keeps row less) (same_within old new 128 (row_place kinds n) (row_place kinds row) (row_place kinds row + width_of kinds) w.body (first_place kinds row) (rows_apart kinds row n less)) (omega (arith, rows_apart kinds row n less)) c (s.cell row column less c)
+            | inr more ↦ let is : row ≡ n = omega (arith, w.count) in let P : ℕ → Type 0 = λ r. first_damage (cell_rules kinds new r column) ≡ None in subst P (sym is) (written_cell kinds old new cells hash heap column w p meets holds page fits c)
+          ];
     })
 
 -- the rows that fit are few
@@ -192,7 +192,7 @@ empty_accepted kinds image kind width rows parts =
       rows = omega (arith, rows);
       parts = ap (λ n. cond (has_texts kinds && ltb 0 n) (leb 1 (part_count image) && leb (part_count image) 4) (eqb (part_count image) 0)) rows ∙ empty_parts (has_texts kinds) (part_count image) parts;
       part = λ k inside. absurd (omega (arith, parts, inside));
-      cell = λ row column r c. absurd (omega (arith, rows, r))
+      cell = λ row column r c. absurd (omega (arith, rows, r));
     })
   where
     empty_parts : (texts : Bool) (parts : ℕ) → parts ≡ 0 → cond (texts && false) (leb 1 parts && leb parts 4) (eqb parts 0) ≡ true

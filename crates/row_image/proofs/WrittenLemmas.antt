@@ -55,7 +55,7 @@ written_of kinds old mid new cells hash heap want e long long' others parts few 
       body = record { long = long' ∙ long; same = λ k low high. rest k (omega arith) (omega (arith, place)) ∙ others.after k low };
       count = count ∙ ap (λ m. m + 1) n;
       row = let P : ℕ → Type 0 = λ at. StoresRow kinds new at cells hash in subst P place row;
-      parts = parts_same mid new (record { long = long'; same = λ k low high. rest k low (omega (arith, first_place kinds (row_count mid))) }) few ∙ parts ∙ ap (λ w. cond (has_texts kinds) (parts_with (parts_of old) (row_count old) w) (parts_of old)) e
+      parts = parts_same mid new (record { long = long'; same = λ k low high. rest k low (omega (arith, first_place kinds (row_count mid))) }) few ∙ parts ∙ ap (λ w. cond (has_texts kinds) (parts_with (parts_of old) (row_count old) w) (parts_of old)) e;
     }
 
 pub rows_apart : (kinds : List CellKind) (row other : ℕ) → row < other → row_place kinds row + width_of kinds ≤ row_place kinds other
@@ -100,10 +100,10 @@ unfolding cell_in
 written_cells kinds limit image at cells hash s meets =
     same_lists _ _ (length-map-range_with_len (λ column. cell_in kinds image at column) 0 (length kinds) ∙ sym (length-map cells given_cell ∙ meets.count))
     (λ k d below.
-      let inside : k < length kinds = omega (arith, length-map-range_with_len (λ column. cell_in kinds image at column) 0 (length kinds), below) in
-      get_or-map-range_with_len (λ column. cell_in kinds image at column) 0 (length kinds) k k d inside (omega arith)
-      ∙ cell_is (is_null image at k) (get_or kinds k Bit) image (at + offset_of kinds k) (given_cell (get_or cells k Null)) (null_is kinds limit image at cells hash k s meets inside) (s.stored k inside)
-      ∙ sym (get_or-map given_cell cells k Null d (omega (arith, meets.count))))
+    let inside : k < length kinds = omega (arith, length-map-range_with_len (λ column. cell_in kinds image at column) 0 (length kinds), below) in
+    get_or-map-range_with_len (λ column. cell_in kinds image at column) 0 (length kinds) k k d inside (omega arith)
+    ∙ cell_is (is_null image at k) (get_or kinds k Bit) image (at + offset_of kinds k) (given_cell (get_or cells k Null)) (null_is kinds limit image at cells hash k s meets inside) (s.stored k inside)
+    ∙ sym (get_or-map given_cell cells k Null d (omega (arith, meets.count))))
 
 -- the row is the last, and the others are as they were
 pub written_rows : (kinds : List CellKind) (limit : ℕ) (old new : List ℕ) (cells : List CellIn) (hash : ℕ) (heap : Option (ℕ × ℕ)) → Written kinds old new cells hash heap → Meets kinds limit cells → row_place kinds (row_count old) ≤ length old → rows_of kinds new ≡ rows_of kinds old ++ given_row cells hash ∷ []
@@ -116,7 +116,7 @@ written_rows kinds limit old new cells hash heap w meets fits =
     ∙ map-range_with_len_more (λ row. stored_row kinds new row) 0 n n (omega arith)
     ∙ ap (λ row. map (λ row. stored_row kinds new row) (range_with_len 0 n) ++ row ∷ []) last
     ∙ ap (λ front. front ++ given_row cells hash ∷ []) (map_same (λ row. stored_row kinds new row) (λ row. stored_row kinds old row) n (λ row less.
-        stored_row_same kinds old new row (same_within old new 128 at (row_place kinds row) (row_place kinds row + width_of kinds) w.body (first_place kinds row) (rows_apart kinds row n less)) (omega (arith, rows_apart kinds row n less))))
+    stored_row_same kinds old new row (same_within old new 128 at (row_place kinds row) (row_place kinds row + width_of kinds) w.body (first_place kinds row) (rows_apart kinds row n less)) (omega (arith, rows_apart kinds row n less))))
 
 pub ruled : (null : Bool) (was now : List Rule) → (first_damage was ≡ None → first_damage now ≡ None) → first_damage (cond null [] was) ≡ None → first_damage (cond null [] now) ≡ None
 ruled true was now go h = refl

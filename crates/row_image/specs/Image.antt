@@ -73,7 +73,7 @@ part_at image part =
       first = number_at image (part_place part) 4;
       rows = number_at image (part_place part + 4) 4;
       heap = number_at image (part_place part + 8) 4;
-      base = number_at image (part_place part + 16) 8
+      base = number_at image (part_place part + 16) 8;
     }
 
 -- the parts of an image, in order

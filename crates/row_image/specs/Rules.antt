@@ -21,6 +21,9 @@ pub record Rule : Type 0 where
   pub found : ℕ
   pub bound : ℕ
 
+abbrev pub rule_of : DamageField → Bool → ℕ → ℕ → Rule
+rule_of field holds found bound = record { field = field; holds = holds; found = found; bound = bound }
+
 abbrev pub damage_of : Rule → Damage
 damage_of rule = record { field = rule.field; found = rule.found; bound = rule.bound }
 
@@ -59,7 +62,7 @@ parts_rule kinds image =
       field = Parts;
       holds = if needs_parts kinds image then nat_le 1 parts && nat_le parts 4 else parts == 0;
       found = parts;
-      bound = if needs_parts kinds image then 4 else 0
+      bound = if needs_parts kinds image then 4 else 0;
     }
 
 unfoldable pub head_rules : List CellKind → List ℕ → List Rule
@@ -85,7 +88,7 @@ part_rows_rule image part =
       field = PartRows;
       holds = nat_le 1 rows && (if part + 1 == part_count image then rows == left else nat_le rows left);
       found = rows;
-      bound = left
+      bound = left;
     }
 
 -- its base is a page's place below 2^48, and 0 without a heap page
@@ -97,7 +100,7 @@ base_rule image part =
       field = PartBase;
       holds = if none then base == 0 else base % length image == 0 && nat_lt base (2 ^ 48);
       found = base;
-      bound = if none then 0 else 2 ^ 48
+      bound = if none then 0 else 2 ^ 48;
     }
 
 unfoldable pub part_rules : List ℕ → ℕ → List Rule
@@ -126,7 +129,7 @@ address_rule page size address part =
       field = CellAddress;
       holds = not (part.heap == no_heap) && (nat_le (part.base + 64) address && nat_le (address + size) (part.base + page));
       found = address;
-      bound = part.base + page
+      bound = part.base + page;
     }
 
 -- the rule on the bytes behind a text's length

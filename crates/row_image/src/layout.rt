@@ -64,10 +64,10 @@ impl Model for Layout {
     ghost inverse = { λ kinds. record { kinds = padded kinds; count = length kinds; offsets = offsets_of kinds; texts = has_texts kinds } };
 
     ghost inverse_ok = { λ a h. λ i. record {
-        kinds = padded_front a.kinds a.count h.most h.whole h.rest i;
-        count = length_front a.kinds a.count h.most h.whole i;
-        offsets = h.places i;
-        texts = h.has i
+      kinds = padded_front a.kinds a.count h.most h.whole h.rest i;
+      count = length_front a.kinds a.count h.most h.whole i;
+      offsets = h.places i;
+      texts = h.has i;
     } };
 }
 

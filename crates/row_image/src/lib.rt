@@ -4,6 +4,7 @@
 
 mod bytes;
 mod cell;
+mod check;
 mod image;
 mod layout;
 mod parts;
@@ -12,6 +13,7 @@ mod read;
 mod write;
 
 pub use cell::{Cell, CellIn};
+pub use check::{check_image, text_limit};
 pub use image::{Damage, DamageField, ImageKind, Part, RowPut, Shape};
 pub use layout::{CellKind, Layout};
 pub use read::{read_cell, row_count, row_hash_of};

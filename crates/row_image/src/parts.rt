@@ -94,11 +94,7 @@ fn joins(image: &[u8], want: Option<(u32, u64)>) -> bool
 pub fn wanted(cells: &[CellIn], heap: Option<(u32, u64)>) -> Option<(u32, u64)>
     ensures { result ≡ wanted cells.now heap }
 {
-    if has_long(cells) {
-        heap
-    } else {
-        None
-    }
+    if has_long(cells) { heap } else { None }
 }
 
 // Whether a text lies on a heap page.
@@ -135,8 +131,18 @@ fn grown(part: Part, want: Option<(u32, u64)>) -> Part
 {
     let rows = part.rows + 1;
     match want {
-        None => Part { first: part.first, rows, heap: part.heap, base: part.base },
-        Some((heap, base)) => Part { first: part.first, rows, heap, base },
+        None => Part {
+            first: part.first,
+            rows,
+            heap: part.heap,
+            base: part.base,
+        },
+        Some((heap, base)) => Part {
+            first: part.first,
+            rows,
+            heap,
+            base,
+        },
     }
 }
 
@@ -145,7 +151,17 @@ fn begun(row: u32, want: Option<(u32, u64)>) -> Part
     ensures { result ≡ begun row want }
 {
     match want {
-        None => Part { first: row, rows: 1, heap: NO_HEAP, base: 0 },
-        Some((heap, base)) => Part { first: row, rows: 1, heap, base },
+        None => Part {
+            first: row,
+            rows: 1,
+            heap: NO_HEAP,
+            base: 0,
+        },
+        Some((heap, base)) => Part {
+            first: row,
+            rows: 1,
+            heap,
+            base,
+        },
     }
 }

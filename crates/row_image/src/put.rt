@@ -22,7 +22,12 @@ pub fn put_row(layout: &Layout, image: &mut [u8], at: usize, cells: &[CellIn], h
     put_mask(layout, image, at, cells);
     set_long(image, at + layout.mask_bytes(), hash);
     for column in 0..cells.len() {
-        put_cell(image, at + layout.offset(column), layout.kind(column), &cells[column]);
+        put_cell(
+            image,
+            at + layout.offset(column),
+            layout.kind(column),
+            &cells[column],
+        );
     }
 }
 

@@ -18,14 +18,16 @@ overflow_add-at-then-column-kinds c =
     omega (arith, c.loop-column.invariant.1, c.width-at.ensures, offset_of_next c.args.kinds.now c.loop-column.column inside, offset_of_most c.args.kinds.now (c.loop-column.column + 1), width_of_most c.args.kinds.now c.requires)
 
 pub loop-column-preserved : goal.loop-column-preserved
-loop-column-preserved c =
-    (length-set c.loop-column.places c.loop-column.column c.loop-column.at ∙ c.loop-column.invariant.0,
-    elim c.if-column-kinds.branch [
-      then-column-kinds w ↦ w.at-is ∙ omega (arith, c.loop-column.invariant.1, w.width-at.ensures, offset_of_next c.args.kinds.now c.loop-column.column w.if-column-kinds.true)
-    | else-column-kinds w ↦ w.at-is ∙ omega (arith, c.loop-column.invariant.1, offset_of_past c.args.kinds.now c.loop-column.column w.if-column-kinds.false, offset_of_past c.args.kinds.now (c.loop-column.column + 1) (omega (arith, w.if-column-kinds.false))) ],
-    below_more _ _
-    (λ k h. let ne : k ≢ c.loop-column.column = omega arith in rw get_or-set_other (c.loop-column.invariant.2 k h))
-    (let lt : c.loop-column.column < length c.loop-column.places = omega (arith, c.loop-column.invariant.0) in rw get_or-set_same (c.loop-column.invariant.1)))
+loop-column-preserved c = (
+  length-set c.loop-column.places c.loop-column.column c.loop-column.at ∙ c.loop-column.invariant.0,
+  elim c.if-column-kinds.branch [
+    | then-column-kinds w ↦ w.at-is ∙ omega (arith, c.loop-column.invariant.1, w.width-at.ensures, offset_of_next c.args.kinds.now c.loop-column.column w.if-column-kinds.true)
+    | else-column-kinds w ↦ w.at-is ∙ omega (arith, c.loop-column.invariant.1, offset_of_past c.args.kinds.now c.loop-column.column w.if-column-kinds.false, offset_of_past c.args.kinds.now (c.loop-column.column + 1) (omega (arith, w.if-column-kinds.false)))
+  ],
+  below_more _ _
+      (λ k h. let ne : k ≢ c.loop-column.column = omega arith in rw get_or-set_other (c.loop-column.invariant.2 k h))
+      (let lt : c.loop-column.column < length c.loop-column.places = omega (arith, c.loop-column.invariant.0) in rw get_or-set_same (c.loop-column.invariant.1)),
+)
 
 pub returns : goal.returns
 unfolding offsets_of

@@ -32,17 +32,18 @@ loop-column-preserved c =
     let column = c.loop-column.column in
     let at = c.args.at in
     let inside : column < length kinds = omega arith in
-    let width : cell_width c.kind.result ≡ cell_width (get_or kinds column Bit) = ap cell_width c.kind.ensures in
-    (changes_joined c.set_long.new.image c.loop-column.image c.put_cell.new.image (at + mask_bytes kinds + 8) (at + offset_of kinds column) (at + c.offset.result) (at + c.offset.result + cell_width c.kind.result) (at + mask_bytes kinds + 8) (at + offset_of kinds (column + 1))
-    c.loop-column.invariant.0 c.put_cell.ensures.others (omega arith) (omega (arith, offset_of_least kinds column, c.offset.ensures)) (omega (arith, offset_of_next kinds column inside)) (omega (arith, offset_of_next kinds column inside, c.offset.ensures)),
-    below_more _ _
-    (λ k below. stores_same (get_or kinds k Bit) c.loop-column.image c.put_cell.new.image (at + offset_of kinds k) (given_cell (get_or c.args.cells.now k Null))
-    (same_before c.loop-column.image c.put_cell.new.image (at + c.offset.result) (at + c.offset.result + cell_width c.kind.result) (at + offset_of kinds k) (at + offset_of kinds k + cell_width (get_or kinds k Bit)) (omega arith) c.put_cell.ensures.others (omega (arith, cells_apart kinds k column below (omega arith), c.offset.ensures)))
-    (omega (arith, cells_apart kinds k column below (omega arith), offset_of_most kinds column, c.requires.room))
-    (c.loop-column.invariant.1 k below))
-    (let P : CellKind → Type 0 = λ kind. StoresAt kind c.put_cell.new.image (at + c.offset.result) (given_cell (get_or c.args.cells.now column Null)) in
-    let Q : ℕ → Type 0 = λ place. StoresAt (get_or kinds column Bit) c.put_cell.new.image (at + place) (given_cell (get_or c.args.cells.now column Null)) in
-    subst Q c.offset.ensures (subst P c.kind.ensures c.put_cell.ensures.stored)))
+    let width : cell_width c.kind.result ≡ cell_width (get_or kinds column Bit) = ap cell_width c.kind.ensures in (
+      changes_joined c.set_long.new.image c.loop-column.image c.put_cell.new.image (at + mask_bytes kinds + 8) (at + offset_of kinds column) (at + c.offset.result) (at + c.offset.result + cell_width c.kind.result) (at + mask_bytes kinds + 8) (at + offset_of kinds (column + 1))
+          c.loop-column.invariant.0 c.put_cell.ensures.others (omega arith) (omega (arith, offset_of_least kinds column, c.offset.ensures)) (omega (arith, offset_of_next kinds column inside)) (omega (arith, offset_of_next kinds column inside, c.offset.ensures)),
+      below_more _ _
+          (λ k below. stores_same (get_or kinds k Bit) c.loop-column.image c.put_cell.new.image (at + offset_of kinds k) (given_cell (get_or c.args.cells.now k Null))
+          (same_before c.loop-column.image c.put_cell.new.image (at + c.offset.result) (at + c.offset.result + cell_width c.kind.result) (at + offset_of kinds k) (at + offset_of kinds k + cell_width (get_or kinds k Bit)) (omega arith) c.put_cell.ensures.others (omega (arith, cells_apart kinds k column below (omega arith), c.offset.ensures)))
+          (omega (arith, cells_apart kinds k column below (omega arith), offset_of_most kinds column, c.requires.room))
+          (c.loop-column.invariant.1 k below))
+          (let P : CellKind → Type 0 = λ kind. StoresAt kind c.put_cell.new.image (at + c.offset.result) (given_cell (get_or c.args.cells.now column Null)) in
+          let Q : ℕ → Type 0 = λ place. StoresAt (get_or kinds column Bit) c.put_cell.new.image (at + place) (given_cell (get_or c.args.cells.now column Null)) in
+          subst Q c.offset.ensures (subst P c.kind.ensures c.put_cell.ensures.stored)),
+    )
 
 pub returns-clause-others : goal.returns-clause-others
 returns-clause-others c =
@@ -60,8 +61,8 @@ returns-clause-row c =
     record {
       hash_is = number_at_before c.set_long.new.image c.loop-column.image (at + mask_bytes kinds + 8) column_end c.loop-column.invariant.0 (at + mask_bytes kinds) 8 (omega arith) ∙ ap (λ place. number_at c.set_long.new.image place 8) (omega arith) ∙ c.set_long.ensures.stored;
       nulls = λ column inside.
-        let kept : slice_index c.loop-column.image (at + column / 8) ≡ slice_index c.put_mask.new.image (at + column / 8) =
-            c.loop-column.invariant.0.before (at + column / 8) (omega (arith, mask_holds kinds column inside)) ∙ c.set_long.ensures.others.before (at + column / 8) (omega (arith, mask_holds kinds column inside, c.mask_bytes.ensures.count)) in
-        ap (λ byte. bit_at byte (column % 8) == 1) kept ∙ ap (λ b. b == 1) (c.put_mask.ensures.bits (column / 8) (column % 8) (mask_holds kinds column inside) (omega arith) ∙ ap (null_bit c.args.cells.now) (omega arith));
-      stored = λ column inside. c.loop-column.invariant.1 column (omega arith)
+          let kept : slice_index c.loop-column.image (at + column / 8) ≡ slice_index c.put_mask.new.image (at + column / 8) =
+          c.loop-column.invariant.0.before (at + column / 8) (omega (arith, mask_holds kinds column inside)) ∙ c.set_long.ensures.others.before (at + column / 8) (omega (arith, mask_holds kinds column inside, c.mask_bytes.ensures.count)) in
+          ap (λ byte. bit_at byte (column % 8) == 1) kept ∙ ap (λ b. b == 1) (c.put_mask.ensures.bits (column / 8) (column % 8) (mask_holds kinds column inside) (omega arith) ∙ ap (null_bit c.args.cells.now) (omega arith));
+      stored = λ column inside. c.loop-column.invariant.1 column (omega arith);
     }

@@ -14,6 +14,7 @@ returns-clause-stored c =
     let kind = takes_short c.args.kind (text_limit (length c.args.image.now)) c.args.text.now c.requires.takes in
     let size = number_at_before c.set_word.new.image c.put_text.new.image (c.args.at + 4) (c.args.at + 4 + 12) c.put_text.ensures.others c.args.at 4 (omega arith) in
     let P : CellKind → Type 0 = λ k. StoresAt k c.put_text.new.image c.args.at (ShortCell c.args.text.now) in
-    subst P (sym kind.0)
-    (cell_at_short c.put_text.new.image c.args.at c.args.text.now (size ∙ c.set_word.ensures.stored) kind.1 (omega (arith, c.requires.room, ap cell_width kind.0)) c.put_text.ensures.text,
-    λ k from to. c.put_text.ensures.zeros k from (omega arith))
+    subst P (sym kind.0) (
+      cell_at_short c.put_text.new.image c.args.at c.args.text.now (size ∙ c.set_word.ensures.stored) kind.1 (omega (arith, c.requires.room, ap cell_width kind.0)) c.put_text.ensures.text,
+      λ k from to. c.put_text.ensures.zeros k from (omega arith),
+    )

@@ -40,10 +40,10 @@ returns-clause-accepted c =
     let ne : row_count old ≢ rows_that_fit kinds (length old) = λ e. c.if-row-rows_that_fit.false (c.row_count-row.ensures ∙ e ∙ sym c.rows_that_fit.ensures) in
     let w = written_of kinds old c.count_in_parts.new.image c.append.new.image c.args.cells.now c.args.hash c.args.heap c.wanted.result c.wanted.ensures (omega arith) (omega arith) c.count_in_parts.ensures.others (c.count_in_parts.ensures.put c.if-not-count_in_parts.false) c.count_in_parts.ensures.few c.append.ensures.count c.append.ensures.row c.append.ensures.kind c.append.ensures.parts in
     let room : begins_fifth (parts_of old) (wanted c.args.cells.now c.args.heap) ≡ false =
-        elim (cases_Bool (begins_fifth (parts_of old) (wanted c.args.cells.now c.args.heap))) [
-          inl full ↦ absurd (false≢true (sym (c.count_in_parts.ensures.full.1 (ap (begins_fifth (parts_of old)) c.wanted.ensures ∙ full)) ∙ c.if-not-count_in_parts.false))
-        | inr free ↦ free
-        ] in
+    elim (cases_Bool (begins_fifth (parts_of old) (wanted c.args.cells.now c.args.heap))) [
+      | inl full ↦ absurd (false≢true (sym (c.count_in_parts.ensures.full.1 (ap (begins_fifth (parts_of old)) c.wanted.ensures ∙ full)) ∙ c.if-not-count_in_parts.false))
+      | inr free ↦ free
+    ] in
     written_accepted kinds old c.append.new.image c.args.cells.now c.args.hash c.args.heap w c.requires.accepted c.requires.meets c.requires.heap room (omega (arith, s.rows, ne)) c.requires.page.least
 
 pub returns-clause-rows : goal.returns-clause-rows

@@ -13,5 +13,5 @@ invariant_of-result c = record {
   whole = grind (arith, common_steps);
   rest = rw c.copy_from_slice.ensures.after (drop-append_seam c.args.kinds.now _ ∙ drop-replicate (length c.args.kinds.now) 65 Bit);
   places = ap offsets_of (rw c.copy_from_slice.ensures.after (take_at c.args.kinds.now _ (length c.args.kinds.now) refl)) ∙ sym c.offsets.ensures;
-  has = ap has_texts (rw c.copy_from_slice.ensures.after (take_at c.args.kinds.now _ (length c.args.kinds.now) refl)) ∙ sym c.has_texts.ensures
+  has = ap has_texts (rw c.copy_from_slice.ensures.after (take_at c.args.kinds.now _ (length c.args.kinds.now) refl)) ∙ sym c.has_texts.ensures;
 }
