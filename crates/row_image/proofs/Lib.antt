@@ -1,0 +1,12 @@
+pub mod ByteLemmas
+pub mod LayoutLemmas
+pub mod RuleLemmas
+pub mod AcceptedLemmas
+pub mod StoreLemmas
+pub mod ListLemmas
+pub mod PartLemmas
+pub mod PartFacts
+pub mod CellRuleLemmas
+pub mod GrownLemmas
+pub mod WrittenLemmas
+pub mod WrittenAccepted

@@ -1,0 +1,20 @@
+//! The bytes of a page: row pages, heap pages, and what is tested before a page that was read
+//! back is trusted.
+#![tactic(auto)]
+
+mod bytes;
+mod cell;
+mod check;
+mod image;
+mod layout;
+mod parts;
+mod put;
+mod read;
+mod write;
+
+pub use cell::{Cell, CellIn};
+pub use check::{check_image, text_limit};
+pub use image::{Damage, DamageField, ImageKind, Part, RowPut, Shape};
+pub use layout::{CellKind, Layout};
+pub use read::{read_cell, row_count, row_hash_of};
+pub use write::{new_rows, write_row};
