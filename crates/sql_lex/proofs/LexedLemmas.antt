@@ -1,0 +1,88 @@
+-- The walk from one token or gap to the next.
+use Rattle.std.proofs.Common.{◌≡◌, ℕ, zero, suc, ◌+◌, ◌-◌, ◌<◌, ◌≤◌, List, [], ◌∷◌, ◌++◌, length, take, drop, Ok, Err, arith, refl, ap, sym, ◌∙◌, subst, append_assoc, add-zero, append-nil}
+use Rattle.std.specs.Prelude.{Result}
+use Rattle.std.proofs.lemmas.List.{drop-drop, take_rest, length-drop}
+use Rattle.std.proofs.Math.ListN.{drop_of_length-le}
+use Rattle.sql_lex.specs.declared.token.Token.{Token}
+use Rattle.sql_lex.specs.declared.token.TokenKind.{TokenKind}
+use Rattle.sql_lex.specs.declared.rules.Front.{Front}
+use Rattle.sql_lex.specs.declared.rules.Front.TheVariants.{Gap, Lexeme, Bad}
+use Rattle.sql_lex.specs.Fronts.{front_of}
+use Rattle.sql_lex.specs.Lexed.{tokens_from, with_front, front_length, before}
+
+-- these tokens before those behind them
+abbrev pub all_before : List Token → Result (List Token) ℕ → Result (List Token) ℕ
+all_before tokens (Ok more) = Ok (tokens ++ more)
+all_before tokens (Err place) = Err place
+
+pub all_before-none : (behind : Result (List Token) ℕ) → all_before [] behind ≡ behind
+all_before-none (Ok more) = refl
+all_before-none (Err place) = refl
+
+pub all_before-push : (tokens : List Token) (token : Token) (behind : Result (List Token) ℕ) → all_before (tokens ++ token ∷ []) behind ≡ all_before tokens (before token behind)
+all_before-push tokens token (Ok more) = ap Ok (append_assoc tokens (token ∷ []) more)
+all_before-push tokens token (Err place) = refl
+
+-- the bytes that belong to what stands before them are passed over
+pub tokens_from-inside : (place inside : ℕ) (text : List ℕ) → inside ≤ length text → tokens_from place inside text ≡ tokens_from (place + inside) 0 (drop inside text)
+tokens_from-inside place zero [] within = refl
+tokens_from-inside place zero (c ∷ rest) within = ap (λ (p : ℕ). tokens_from p 0 (c ∷ rest)) (omega arith)
+tokens_from-inside place (suc inside) [] within = absurd (omega arith)
+tokens_from-inside place (suc inside) (c ∷ rest) within =
+    tokens_from-inside (place + 1) inside rest (omega arith) ∙ ap (λ (p : ℕ). tokens_from p 0 (drop inside rest)) (omega arith)
+
+-- one step: what stands at the front of a text, and then what is behind it
+pub tokens_from-step : (place n : ℕ) (text : List ℕ) → 0 < n → n ≤ length text → front_length (front_of text) ≡ n
+    → tokens_from place 0 text ≡ with_front (front_of text) place (tokens_from (place + n) 0 (drop n text))
+tokens_from-step place zero text some within front = absurd (omega arith)
+tokens_from-step place (suc m) [] some within front = absurd (omega arith)
+tokens_from-step place (suc m) (c ∷ rest) some within front =
+    let inside : front_length (front_of (c ∷ rest)) - 1 ≡ m = omega arith in
+    let behind : tokens_from (place + 1) (front_length (front_of (c ∷ rest)) - 1) rest ≡ tokens_from (place + suc m) 0 (drop m rest) =
+        ap (λ (k : ℕ). tokens_from (place + 1) k rest) inside ∙ tokens_from-inside (place + 1) m rest (omega arith) ∙ ap (λ (p : ℕ). tokens_from p 0 (drop m rest)) (omega arith) in
+    ap (with_front (front_of (c ∷ rest)) place) behind
+
+-- where nothing stands, the place is bad
+pub tokens_from-bad : (place : ℕ) (text : List ℕ) → 0 < length text → Bad ≡ front_of text → tokens_from place 0 text ≡ Err place
+tokens_from-bad place [] some front = absurd (omega arith)
+tokens_from-bad place (c ∷ rest) some front = ap (λ (f : Front). with_front f place (tokens_from (place + 1) (front_length (front_of (c ∷ rest)) - 1) rest)) (sym front)
+
+-- the loop's steps. `left` is what the code sees of the script at a place.
+pub step-gap : (script left : List ℕ) (at n : ℕ) (tokens : List Token) (whole : Result (List Token) ℕ) → left ≡ take (length script - at) (drop at script)
+    → Gap n ≡ front_of left → 0 < n → n ≤ length left → all_before tokens (tokens_from at 0 (drop at script)) ≡ whole → all_before tokens (tokens_from (at + n) 0 (drop (at + n) script)) ≡ whole
+step-gap script left at n tokens whole seen front some within so_far =
+    let rest : left ≡ drop at script = seen ∙ take_rest script at in
+    let step : tokens_from at 0 left ≡ with_front (front_of left) at (tokens_from (at + n) 0 (drop n left)) = tokens_from-step at n left some within (ap front_length (sym front)) in
+    let gap : with_front (front_of left) at (tokens_from (at + n) 0 (drop n left)) ≡ tokens_from (at + n) 0 (drop n left) = ap (λ (f : Front). with_front f at (tokens_from (at + n) 0 (drop n left))) (sym front) in
+    let on : drop n left ≡ drop (at + n) script = ap (drop n) rest ∙ drop-drop n at script in
+    ap (λ (s : List ℕ). all_before tokens (tokens_from (at + n) 0 s)) (sym on)
+    ∙ ap (all_before tokens) (sym (step ∙ gap))
+    ∙ ap (λ (s : List ℕ). all_before tokens (tokens_from at 0 s)) rest
+    ∙ so_far
+
+pub step-token : (script left : List ℕ) (at n : ℕ) (kind : TokenKind) (tokens : List Token) (whole : Result (List Token) ℕ) → left ≡ take (length script - at) (drop at script)
+    → Lexeme kind n ≡ front_of left → 0 < n → n ≤ length left → all_before tokens (tokens_from at 0 (drop at script)) ≡ whole
+    → all_before (tokens ++ (record { kind = kind; start = at; end = at + n }) ∷ []) (tokens_from (at + n) 0 (drop (at + n) script)) ≡ whole
+step-token script left at n kind tokens whole seen front some within so_far =
+    let token : Token = record { kind = kind; start = at; end = at + n } in
+    let rest : left ≡ drop at script = seen ∙ take_rest script at in
+    let step : tokens_from at 0 left ≡ with_front (front_of left) at (tokens_from (at + n) 0 (drop n left)) = tokens_from-step at n left some within (ap front_length (sym front)) in
+    let is : with_front (front_of left) at (tokens_from (at + n) 0 (drop n left)) ≡ before token (tokens_from (at + n) 0 (drop n left)) = ap (λ (f : Front). with_front f at (tokens_from (at + n) 0 (drop n left))) (sym front) in
+    let on : drop n left ≡ drop (at + n) script = ap (drop n) rest ∙ drop-drop n at script in
+    ap (λ (s : List ℕ). all_before (tokens ++ token ∷ []) (tokens_from (at + n) 0 s)) (sym on)
+    ∙ all_before-push tokens token (tokens_from (at + n) 0 (drop n left))
+    ∙ ap (all_before tokens) (sym (step ∙ is))
+    ∙ ap (λ (s : List ℕ). all_before tokens (tokens_from at 0 s)) rest
+    ∙ so_far
+
+pub step-bad : (script left : List ℕ) (at : ℕ) (tokens : List Token) (whole : Result (List Token) ℕ) → at < length script → left ≡ take (length script - at) (drop at script)
+    → Bad ≡ front_of left → all_before tokens (tokens_from at 0 (drop at script)) ≡ whole → whole ≡ Err at
+step-bad script left at tokens whole within seen front so_far =
+    let rest : left ≡ drop at script = seen ∙ take_rest script at in
+    let some : 0 < length left = omega (arith, ap length rest, length-drop at script) in
+    sym so_far ∙ ap (λ (s : List ℕ). all_before tokens (tokens_from at 0 s)) (sym rest) ∙ ap (all_before tokens) (tokens_from-bad at left some front)
+
+-- at the end no token is left
+pub step-end : (script : List ℕ) (at : ℕ) (tokens : List Token) (whole : Result (List Token) ℕ) → length script ≤ at → all_before tokens (tokens_from at 0 (drop at script)) ≡ whole → whole ≡ Ok tokens
+step-end script at tokens whole ended so_far =
+    sym so_far ∙ ap (λ (s : List ℕ). all_before tokens (tokens_from at 0 s)) (drop_of_length-le script ended) ∙ ap Ok (append-nil tokens)

@@ -1,0 +1,6 @@
+pub mod WordsLemmas
+pub mod GapsLemmas
+pub mod QuotesLemmas
+pub mod NumbersLemmas
+pub mod FrontsLemmas
+pub mod LexedLemmas

@@ -1,0 +1,39 @@
+//! The tokens of a script.
+ghost use Rattle.std.specs.Prelude.{◌≡◌, Ok, Err, IfOk, ℕ};
+ghost use Rattle.sql_lex.specs.Lexed.{lexed};
+
+use std::alloc::Global;
+use std::str;
+
+use crate::fault::LexFault;
+use crate::rules::{Front, front_of};
+use crate::token::{Token, Tokens};
+
+/// The tokens of a script, in one pass over it.
+///
+/// The script is any bytes. Where they are no UTF-8, the place is that of the first ill-formed sequence,
+/// wherever other bad tokens stand.
+pub fn lex(alloc: Global, script: &[u8]) -> Result<Tokens<'_>, LexFault>
+    ensures script { IfOk result (λ tokens. tokens.script ≡ script.now) }
+    ensures tokens { IfOk result (λ tokens. lexed script.now ≡ Ok tokens.list) }
+    ensures bad { (place : ℕ) → result ≡ Err (LexFault.BadToken place) → lexed script.now ≡ Err place }
+{
+    if let Err(fault) = str::from_utf8(script) {
+        let place = fault.valid_up_to() as u64;
+        return Err(LexFault::BadToken { place });
+    }
+    let mut list = Vec::new(alloc);
+    let mut at = 0;
+    while at < script.len() {
+        match front_of(&script[at..]) {
+            Front::Gap(length) => at += length,
+            Front::Lexeme(kind, length) => {
+                let end = at + length;
+                list.push(Token { kind, start: at, end })?;
+                at = end;
+            }
+            Front::Bad => return Err(LexFault::BadToken { place: at as u64 }),
+        }
+    }
+    Ok(Tokens::new(script, list))
+}
