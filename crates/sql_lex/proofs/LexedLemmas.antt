@@ -1,14 +1,19 @@
 -- The walk from one token or gap to the next.
-use Rattle.std.proofs.Common.{◌≡◌, ℕ, zero, suc, ◌+◌, ◌-◌, ◌<◌, ◌≤◌, List, [], ◌∷◌, ◌++◌, length, take, drop, Ok, Err, arith, refl, ap, sym, ◌∙◌, subst, append_assoc, add-zero, append-nil}
+use Rattle.std.proofs.Common.{◌≡◌, ℕ, zero, suc, ◌+◌, ◌-◌, ◌<◌, ◌≤◌, List, [], ◌∷◌, ◌++◌, length, take, drop, Ok, Err, arith, refl, ap, sym, ◌∙◌, subst, append_assoc, add-zero, append-nil, inl, inr}
 use Rattle.std.specs.Prelude.{Result}
 use Rattle.std.proofs.lemmas.List.{drop-drop, take_rest, length-drop}
 use Rattle.std.proofs.Math.ListN.{drop_of_length-le}
+use Rattle.std.specs.Str.{IsUtf8, is_utf8}
+use Rattle.std.specs.Str.Lossy.{utf8_valid_len}
+use Rattle.std.proofs.lemmas.Str.{is_utf8-from_IsUtf8, IsUtf8-from_is_utf8}
+use Rattle.std.proofs.lemmas.Bool.{cases_Bool}
 use Rattle.sql_lex.specs.declared.token.Token.{Token}
 use Rattle.sql_lex.specs.declared.token.TokenKind.{TokenKind}
 use Rattle.sql_lex.specs.declared.rules.Front.{Front}
 use Rattle.sql_lex.specs.declared.rules.Front.TheVariants.{Gap, Lexeme, Bad}
 use Rattle.sql_lex.specs.Fronts.{front_of}
-use Rattle.sql_lex.specs.Lexed.{tokens_from, with_front, front_length, before}
+use Rattle.sql_lex.proofs.Parts.{part-at}
+use Rattle.sql_lex.specs.Lexed.{lexed, tokens_from, with_front, front_length, before}
 
 -- these tokens before those behind them
 abbrev pub all_before : List Token → Result (List Token) ℕ → Result (List Token) ℕ
@@ -46,6 +51,17 @@ tokens_from-step place (suc m) (c ∷ rest) some within front =
 pub tokens_from-bad : (place : ℕ) (text : List ℕ) → 0 < length text → Bad ≡ front_of text → tokens_from place 0 text ≡ Err place
 tokens_from-bad place [] some front = absurd (omega arith)
 tokens_from-bad place (c ∷ rest) some front = ap (λ (f : Front). with_front f place (tokens_from (place + 1) (front_length (front_of (c ∷ rest)) - 1) rest)) (sym front)
+
+-- what stands at a place ends within the script
+pub gap-fits : (script left : List ℕ) (at n : ℕ) → left ≡ take (length script - at) (drop at script) → at ≤ length script → Gap n ≡ front_of left → (0 < n) × (at + n ≤ length script) × (n ≤ length left)
+gap-fits script left at n seen within front =
+    let part : (0 < n) × (n ≤ length left) = part-at left (Gap n) front in
+    (part.0, omega (arith, ap length (seen ∙ take_rest script at), length-drop at script), part.1)
+
+pub token-fits : (script left : List ℕ) (at n : ℕ) (kind : TokenKind) → left ≡ take (length script - at) (drop at script) → at ≤ length script → Lexeme kind n ≡ front_of left → (0 < n) × (at + n ≤ length script) × (n ≤ length left)
+token-fits script left at n kind seen within front =
+    let part : (0 < n) × (n ≤ length left) = part-at left (Lexeme kind n) front in
+    (part.0, omega (arith, ap length (seen ∙ take_rest script at), length-drop at script), part.1)
 
 -- the loop's steps. `left` is what the code sees of the script at a place.
 pub step-gap : (script left : List ℕ) (at n : ℕ) (tokens : List Token) (whole : Result (List Token) ℕ) → left ≡ take (length script - at) (drop at script)
@@ -86,3 +102,14 @@ step-bad script left at tokens whole within seen front so_far =
 pub step-end : (script : List ℕ) (at : ℕ) (tokens : List Token) (whole : Result (List Token) ℕ) → length script ≤ at → all_before tokens (tokens_from at 0 (drop at script)) ≡ whole → whole ≡ Ok tokens
 step-end script at tokens whole ended so_far =
     sym so_far ∙ ap (λ (s : List ℕ). all_before tokens (tokens_from at 0 s)) (drop_of_length-le script ended) ∙ ap Ok (append-nil tokens)
+
+-- a script that is UTF-8, and one that isn't
+pub lexed-utf8 : (script : List ℕ) → IsUtf8 script → lexed script ≡ tokens_from 0 0 script
+unfolding lexed
+lexed-utf8 script utf8 = rw (is_utf8-from_IsUtf8 script utf8)
+
+pub lexed-ill_formed : (script : List ℕ) (place : ℕ) → ¬ (IsUtf8 script) → place ≡ utf8_valid_len script → lexed script ≡ Err place
+unfolding lexed
+lexed-ill_formed script place other there = elim (cases_Bool (is_utf8 script)) [
+    inl passes ↦ absurd (other (IsUtf8-from_is_utf8 script passes))
+  | inr fails ↦ rw fails (ap Err (sym there)) ]

@@ -4,3 +4,4 @@ pub mod QuotesLemmas
 pub mod NumbersLemmas
 pub mod FrontsLemmas
 pub mod LexedLemmas
+pub mod Parts

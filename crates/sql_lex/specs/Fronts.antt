@@ -1,5 +1,5 @@
 -- What stands at the front of a text: a blank or a comment, a token, or neither.
-use Rattle.std.specs.Prelude.{ℕ, ◌+◌, ◌-◌, ◌^◌, ◌<◌, ◌≤◌, List, [], ◌∷◌, length, take, drop, Bool, ◌==◌, ◌&&◌, nat_eq, nat_lt, nat_le, Option, None, Some, codes, if◌then◌else◌}
+use Rattle.std.specs.Prelude.{ℕ, ◌+◌, ◌-◌, ◌^◌, List, [], ◌∷◌, length, take, drop, Bool, ◌==◌, ◌&&◌, nat_eq, nat_lt, nat_le, Option, None, Some, codes, if◌then◌else◌}
 use Rattle.std.specs.List.{starts_with, list_all}
 use Rattle.std.specs.Str.Parse.{digits_value}
 use Rattle.sql_lex.specs.declared.token.Word.{Word}
@@ -90,9 +90,3 @@ front_of (c ∷ rest) = let text = c ∷ rest in
     else if starts_with nat_eq text (codes "--") then Gap (line_comment_length text)
     else if starts_with nat_eq text (codes "/*") then gap_of (block_comment_length text)
     else sign_front text
-
--- what stands at the front of a text is a part of it, and has a byte at least
-abbrev pub IsPart : List ℕ → Front → Type 0
-IsPart text (Gap n) = (0 < n) × (n ≤ length text)
-IsPart text (Lexeme kind n) = (0 < n) × (n ≤ length text)
-IsPart text Bad = Unit {0}

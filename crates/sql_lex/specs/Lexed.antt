@@ -1,5 +1,6 @@
 -- The tokens of a script.
-use Rattle.std.specs.Prelude.{ℕ, zero, suc, ◌+◌, ◌-◌, List, [], ◌∷◌, length, ◌==◌, Result, Ok, Err, if◌then◌else◌}
+use Rattle.std.specs.Prelude.{ℕ, zero, suc, ◌+◌, ◌-◌, List, [], ◌∷◌, Result, Ok, Err, if◌then◌else◌}
+use Rattle.std.specs.Str.{is_utf8}
 use Rattle.std.specs.Str.Lossy.{utf8_valid_len}
 use Rattle.sql_lex.specs.declared.token.Token.{Token}
 use Rattle.sql_lex.specs.declared.rules.Front.{Front}
@@ -34,4 +35,4 @@ tokens_from place zero (c ∷ rest) = let front = front_of (c ∷ rest) in
 -- the tokens of a script, or the place of the first bad one. Where the script is no UTF-8, that is
 -- the place of the first ill-formed sequence, wherever other tokens stand.
 unfoldable pub lexed : List ℕ → Result (List Token) ℕ
-lexed script = if utf8_valid_len script == length script then tokens_from 0 0 script else Err (utf8_valid_len script)
+lexed script = if is_utf8 script then tokens_from 0 0 script else Err (utf8_valid_len script)

@@ -1,6 +1,6 @@
 //! The tokens of a script.
-ghost use Rattle.std.specs.Prelude.{◌≡◌, Ok, Err, IfOk, ℕ};
-ghost use Rattle.sql_lex.specs.Lexed.{lexed};
+ghost use Rattle.std.specs.Prelude.{◌≡◌, Ok, Err, IfOk, MatchOption, ℕ};
+ghost use Rattle.sql_lex.specs.Lexed.{lexed, tokens_from};
 
 use std::alloc::Global;
 use std::str;
@@ -8,6 +8,16 @@ use std::str;
 use crate::fault::LexFault;
 use crate::rules::{Front, front_of};
 use crate::token::{Token, Tokens};
+
+/// The place of the first ill-formed sequence, if a script is no UTF-8.
+fn ill_formed(script: &[u8]) -> Option<usize>
+    ensures { MatchOption result (lexed script.now ≡ tokens_from 0 0 script.now) (λ place. lexed script.now ≡ Err place) }
+{
+    match str::from_utf8(script) {
+        Ok(_) => None,
+        Err(fault) => Some(fault.valid_up_to()),
+    }
+}
 
 /// The tokens of a script, in one pass over it.
 ///
@@ -18,9 +28,8 @@ pub fn lex(alloc: Global, script: &[u8]) -> Result<Tokens<'_>, LexFault>
     ensures tokens { IfOk result (λ tokens. lexed script.now ≡ Ok tokens.list) }
     ensures bad { (place : ℕ) → result ≡ Err (LexFault.BadToken place) → lexed script.now ≡ Err place }
 {
-    if let Err(fault) = str::from_utf8(script) {
-        let place = fault.valid_up_to() as u64;
-        return Err(LexFault::BadToken { place });
+    if let Some(place) = ill_formed(script) {
+        return Err(LexFault::BadToken { place: place as u64 });
     }
     let mut list = Vec::new(alloc);
     let mut at = 0;

@@ -122,8 +122,7 @@ fn sign_front(text: &[u8]) -> Front
 /// What stands at the front of a text.
 #[tactic(auto, unfolding(crate::specs::Fronts::front_of))]
 pub fn front_of(text: &[u8]) -> Front
-    ensures front { result ≡ fronts.front_of text.now }
-    ensures part { fronts.IsPart text.now result }
+    ensures { result ≡ fronts.front_of text.now }
 {
     let [first, ..] = text else {
         return Front::Bad;
