@@ -5,3 +5,5 @@ pub mod NumbersLemmas
 pub mod FrontsLemmas
 pub mod LexedLemmas
 pub mod Parts
+pub mod GapParts
+pub mod CoverLemmas

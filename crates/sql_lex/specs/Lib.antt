@@ -7,3 +7,4 @@ pub mod Quotes
 pub mod Numbers
 pub mod Fronts
 pub mod Lexed
+pub mod Cover
