@@ -38,17 +38,20 @@ pub begins_two : (a b : ℕ) (text : List ℕ) → starts_with eqb text (a ∷ b
 begins_two a b [] begins = cc
 begins_two a b (c ∷ []) begins = elim (cases_Bool (eqb a c)) [ inl same ↦ cc (rw same at begins) | inr other ↦ cc (rw other at begins) ]
 begins_two a b (c ∷ d ∷ rest) begins = elim (cases_Bool (eqb a c)) [
-    inl same ↦ elim (cases_Bool (eqb b d)) [
-        inl also ↦ ap (λ (x : ℕ). x ∷ d ∷ rest) (sym (eqb-true a c same)) ∙ ap (λ (x : ℕ). a ∷ x ∷ rest) (sym (eqb-true b d also))
-      | inr other ↦ cc (rw (same, other) at begins) ]
-  | inr other ↦ cc (rw other at begins) ]
+  | inl same ↦ elim (cases_Bool (eqb b d)) [
+    | inl also ↦ ap (λ (x : ℕ). x ∷ d ∷ rest) (sym (eqb-true a c same)) ∙ ap (λ (x : ℕ). a ∷ x ∷ rest) (sym (eqb-true b d also))
+    | inr other ↦ cc (rw (same, other) at begins)
+  ]
+  | inr other ↦ cc (rw other at begins)
+]
 
 -- the bytes that pass from the front on pass
 pub front-passes : (p : ℕ → Bool) (text : List ℕ) → list_all p (take (prefix_len p text) text) ≡ true
 front-passes p [] = refl
 front-passes p (c ∷ rest) = elim (cases_Bool (p c)) [
-    inl passes ↦ rw (passes, one-add, passes) (front-passes p rest)
-  | inr fails ↦ rw fails refl ]
+  | inl passes ↦ rw (passes, one-add, passes) (front-passes p rest)
+  | inr fails ↦ rw fails refl
+]
 
 pub line-gap : (text : List ℕ) → starts_with eqb text (codes "--") ≡ true → IsGap (take (line_comment_length text) text)
 line-gap text dashes =
@@ -65,12 +68,13 @@ line-gap text dashes =
 pub closed : (text : List ℕ) (n : ℕ) → before_close text ≡ Some n → take (n + 2) text ≡ take n text ++ codes "*/"
 closed [] n found = cc
 closed (c ∷ rest) n found = elim (cases_Bool (starts_with eqb (c ∷ rest) (codes "*/"))) [
-    inl closes ↦
+  | inl closes ↦
       let here : Some 0 ≡ Some n = rw closes at found in
       let none : 0 ≡ n = cc in
       let P : ℕ → Type 0 = λ k. take (k + 2) (c ∷ rest) ≡ take k (c ∷ rest) ++ codes "*/" in
       subst P none (ap (take 2) (begins_two 42 47 (c ∷ rest) closes))
-  | inr other ↦ go (before_close rest) (closed rest) refl (rw other at found) ]
+  | inr other ↦ go (before_close rest) (closed rest) refl (rw other at found)
+]
   where
     go : (later : Option ℕ) → ((m : ℕ) → before_close rest ≡ Some m → take (m + 2) rest ≡ take m rest ++ codes "*/") → before_close rest ≡ later → option_map suc later ≡ Some n → take (n + 2) (c ∷ rest) ≡ take n (c ∷ rest) ++ codes "*/"
     go None on is found = cc
@@ -85,12 +89,13 @@ block-gap text begins = go (before_close (drop 2 text)) refl
   where
     two : text ≡ 47 ∷ 42 ∷ drop 2 text
     two = begins_two 47 42 text begins
+
     go : (found : Option ℕ) → before_close (drop 2 text) ≡ found → IsGapPart text (gap_of (option_map (λ inside. inside + 4) found))
     go None is = tt
     go (Some n) is =
         let size : n + 4 ≡ suc (suc (n + 2)) = omega arith in
         let bytes : take (n + 4) text ≡ 47 ∷ 42 ∷ (take n (drop 2 text) ++ codes "*/") =
-            ap (take (n + 4)) two ∙ ap (λ (k : ℕ). take k (47 ∷ 42 ∷ drop 2 text)) size ∙ ap (λ (s : List ℕ). 47 ∷ 42 ∷ s) (closed (drop 2 text) n is) in
+        ap (take (n + 4)) two ∙ ap (λ (k : ℕ). take k (47 ∷ 42 ∷ drop 2 text)) size ∙ ap (λ (s : List ℕ). 47 ∷ 42 ∷ s) (closed (drop 2 text) n is) in
         subst IsGap (sym bytes) (block_comment (take n (drop 2 text)))
 
 pub lexeme-no_gap : (text : List ℕ) (b : Bool) (kind : TokenKind) (n : ℕ) → IsGapPart text (if b then Lexeme kind n else Bad)

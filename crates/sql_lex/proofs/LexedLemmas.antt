@@ -44,7 +44,7 @@ tokens_from-step place (suc m) [] some within front = absurd (omega arith)
 tokens_from-step place (suc m) (c ∷ rest) some within front =
     let inside : front_length (front_of (c ∷ rest)) - 1 ≡ m = omega arith in
     let behind : tokens_from (place + 1) (front_length (front_of (c ∷ rest)) - 1) rest ≡ tokens_from (place + suc m) 0 (drop m rest) =
-        ap (λ (k : ℕ). tokens_from (place + 1) k rest) inside ∙ tokens_from-inside (place + 1) m rest (omega arith) ∙ ap (λ (p : ℕ). tokens_from p 0 (drop m rest)) (omega arith) in
+    ap (λ (k : ℕ). tokens_from (place + 1) k rest) inside ∙ tokens_from-inside (place + 1) m rest (omega arith) ∙ ap (λ (p : ℕ). tokens_from p 0 (drop m rest)) (omega arith) in
     ap (with_front (front_of (c ∷ rest)) place) behind
 
 -- where nothing stands, the place is bad
@@ -111,5 +111,6 @@ lexed-utf8 script utf8 = rw (is_utf8-from_IsUtf8 script utf8)
 pub lexed-ill_formed : (script : List ℕ) (place : ℕ) → ¬ (IsUtf8 script) → place ≡ utf8_valid_len script → lexed script ≡ Err place
 unfolding lexed
 lexed-ill_formed script place other there = elim (cases_Bool (is_utf8 script)) [
-    inl passes ↦ absurd (other (IsUtf8-from_is_utf8 script passes))
-  | inr fails ↦ rw fails (ap Err (sym there)) ]
+  | inl passes ↦ absurd (other (IsUtf8-from_is_utf8 script passes))
+  | inr fails ↦ rw fails (ap Err (sym there))
+]

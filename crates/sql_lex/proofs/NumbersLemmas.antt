@@ -14,8 +14,9 @@ use Rattle.std.proofs.lemmas.Str.Parse.{digits_value-take-le}
 pub prefix_len-weaker : (p q : ℕ → Bool) → ((c : ℕ) → p c ≡ true → q c ≡ true) → (text : List ℕ) → prefix_len p text ≤ prefix_len q text
 prefix_len-weaker p q weaker [] = omega arith
 prefix_len-weaker p q weaker (c ∷ rest) = elim (cases_Bool (p c)) [
-    inl passes ↦ rw (passes, weaker c passes) (omega (arith, prefix_len-weaker p q weaker rest))
-  | inr fails ↦ rw fails (omega arith) ]
+  | inl passes ↦ rw (passes, weaker c passes) (omega (arith, prefix_len-weaker p q weaker rest))
+  | inr fails ↦ rw fails (omega arith)
+]
 
 -- zeros are digits
 pub zeros-digits : (text : List ℕ) → prefix_len (λ c. eqb c 48) text ≤ prefix_len is_ascii_digit text

@@ -55,8 +55,9 @@ point_some (c ∷ rest) begins = omega arith
 -- digits without a point are some, where a number begins
 pub digits_some : (c : ℕ) (rest : List ℕ) → begins_with_number (c ∷ rest) ≡ true → begins_with_point (drop (digits_length (c ∷ rest)) (c ∷ rest)) ≡ false → 0 < digits_length (c ∷ rest)
 digits_some c rest begins no_point = elim (cases_Bool (is_ascii_digit c)) [
-    inl digit ↦ rw digit (omega arith)
-  | inr other ↦ absurd (digits_none c rest other begins no_point) ]
+  | inl digit ↦ rw digit (omega arith)
+  | inr other ↦ absurd (digits_none c rest other begins no_point)
+]
   where
     digits_none : (c : ℕ) (rest : List ℕ) → is_ascii_digit c ≡ false → begins_with_number (c ∷ rest) ≡ true → begins_with_point (drop (digits_length (c ∷ rest)) (c ∷ rest)) ≡ false → ⊥
     digits_none c rest other begins no_point =
@@ -71,10 +72,10 @@ number-part c rest begins =
     let n : ℕ = digits_length (c ∷ rest) in
     choice (c ∷ rest) _ _ _
     (λ point. choice (c ∷ rest) _ (Lexeme kind.Decimal (n + 1 + digits_length (drop (n + 1) (c ∷ rest)))) Bad
-      (λ _.
-        let more : 0 < length (drop n (c ∷ rest)) = point_some (drop n (c ∷ rest)) point in
-        (omega arith, omega (arith, length-drop n (c ∷ rest), length-drop (n + 1) (c ∷ rest), prefix_len-le-length is_ascii_digit (drop (n + 1) (c ∷ rest)))))
-      (λ _. tt))
+    (λ _.
+    let more : 0 < length (drop n (c ∷ rest)) = point_some (drop n (c ∷ rest)) point in
+    (omega arith, omega (arith, length-drop n (c ∷ rest), length-drop (n + 1) (c ∷ rest), prefix_len-le-length is_ascii_digit (drop (n + 1) (c ∷ rest)))))
+    (λ _. tt))
     (λ none. choice (c ∷ rest) _ (Lexeme kind.Integer n) Bad (λ _. (digits_some c rest begins none, prefix_len-le-length is_ascii_digit (c ∷ rest))) (λ _. tt))
 
 -- a count within a text, moved on
@@ -86,10 +87,12 @@ pub to_closing-within : (quote : ℕ) (text : List ℕ) → IfSome (to_closing q
 to_closing-within quote [] = tt
 to_closing-within quote (c ∷ []) = elim (cases_Bool (eqb c quote)) [ inl closes ↦ rw closes (omega arith) | inr other ↦ rw other tt ]
 to_closing-within quote (c ∷ d ∷ rest) = elim (cases_Bool (eqb c quote)) [
-    inl first ↦ elim (cases_Bool (eqb d quote)) [
-        inl second ↦ rw (first, second) (longer (option_map (λ n. n + 2) (to_closing quote rest)) (length rest + 2) (length (c ∷ d ∷ rest)) (omega arith) (within_on (to_closing quote rest) 2 (length rest) (to_closing-within quote rest)))
-      | inr other ↦ rw (first, other) (omega arith) ]
-  | inr plain ↦ rw plain (longer (option_map (λ n. n + 1) (to_closing quote (d ∷ rest))) (length (d ∷ rest) + 1) (length (c ∷ d ∷ rest)) (omega arith) (within_on (to_closing quote (d ∷ rest)) 1 (length (d ∷ rest)) (to_closing-within quote (d ∷ rest)))) ]
+  | inl first ↦ elim (cases_Bool (eqb d quote)) [
+    | inl second ↦ rw (first, second) (longer (option_map (λ n. n + 2) (to_closing quote rest)) (length rest + 2) (length (c ∷ d ∷ rest)) (omega arith) (within_on (to_closing quote rest) 2 (length rest) (to_closing-within quote rest)))
+    | inr other ↦ rw (first, other) (omega arith)
+  ]
+  | inr plain ↦ rw plain (longer (option_map (λ n. n + 1) (to_closing quote (d ∷ rest))) (length (d ∷ rest) + 1) (length (c ∷ d ∷ rest)) (omega arith) (within_on (to_closing quote (d ∷ rest)) 1 (length (d ∷ rest)) (to_closing-within quote (d ∷ rest))))
+]
   where
     longer : (found : Option ℕ) (m more : ℕ) → m ≤ more → IfSome found (λ n. n ≤ m) → IfSome found (λ n. n ≤ more)
     longer None m more above within = tt
@@ -113,14 +116,16 @@ quoted-part c rest = go (to_closing 34 rest) (to_closing-within 34 rest)
 
 pub line-part : (c : ℕ) (rest : List ℕ) → starts_with eqb (c ∷ rest) (codes "--") ≡ true → IsPart (c ∷ rest) (Gap (line_comment_length (c ∷ rest)))
 line-part c rest dashes = elim (cases_Bool (eqb c 10)) [
-    inl line_end ↦ cc (rw (eqb-true c 10 line_end) at dashes)
-  | inr other ↦ (rw other (omega arith), prefix_len-le-length (λ b. not (eqb b 10)) (c ∷ rest)) ]
+  | inl line_end ↦ cc (rw (eqb-true c 10 line_end) at dashes)
+  | inr other ↦ (rw other (omega arith), prefix_len-le-length (λ b. not (eqb b 10)) (c ∷ rest))
+]
 
 pub before_close-within : (text : List ℕ) → IfSome (before_close text) (λ n. n + 2 ≤ length text)
 before_close-within [] = tt
 before_close-within (c ∷ rest) = elim (cases_Bool (starts_with eqb (c ∷ rest) (codes "*/"))) [
-    inl closes ↦ rw closes (begins_long 42 47 (c ∷ rest) closes)
-  | inr other ↦ rw other (go (before_close rest) (before_close-within rest)) ]
+  | inl closes ↦ rw closes (begins_long 42 47 (c ∷ rest) closes)
+  | inr other ↦ rw other (go (before_close rest) (before_close-within rest))
+]
   where
     go : (found : Option ℕ) → IfSome found (λ n. n + 2 ≤ length rest) → IfSome (option_map suc found) (λ n. n + 2 ≤ suc (length rest))
     go None within = tt
@@ -136,12 +141,14 @@ block-part text begins = go (before_close (drop 2 text)) (before_close-within (d
 pub sign-part : (c : ℕ) (rest : List ℕ) → IsPart (c ∷ rest) (sign_front (c ∷ rest))
 unfolding sign_front
 sign-part c rest = elim (cases_Bool (leb 2 (length (c ∷ rest)))) [
-    inl two ↦ rw two (pair (sign_of (take 2 (c ∷ rest))) (leb-true 2 (length (c ∷ rest)) two))
-  | inr short ↦ rw short (one (sign_of (c ∷ []))) ]
+  | inl two ↦ rw two (pair (sign_of (take 2 (c ∷ rest))) (leb-true 2 (length (c ∷ rest)) two))
+  | inr short ↦ rw short (one (sign_of (c ∷ [])))
+]
   where
     one : (found : Option Sign) → IsPart (c ∷ rest) (sign_or found 1 Bad)
     one None = tt
     one (Some sign) = (omega arith, omega arith)
+
     pair : (found : Option Sign) → 2 ≤ length (c ∷ rest) → IsPart (c ∷ rest) (sign_or found 2 (sign_or (sign_of (c ∷ [])) 1 Bad))
     pair None long = one (sign_of (c ∷ []))
     pair (Some sign) long = (omega arith, long)

@@ -1,13 +1,13 @@
 //! The tokens of a script.
 ghost use Rattle.std.specs.Prelude.{◌≡◌, Ok, Err, IfOk, MatchOption, ℕ};
+ghost use Rattle.sql_lex.specs.Cover.{Covers};
 ghost use Rattle.sql_lex.specs.Lexed.{lexed, tokens_from};
-
-use std::alloc::Global;
-use std::str;
 
 use crate::fault::LexFault;
 use crate::rules::{Front, front_of};
 use crate::token::{Token, Tokens};
+use std::alloc::Global;
+use std::str;
 
 /// The place of the first ill-formed sequence, if a script is no UTF-8.
 fn ill_formed(script: &[u8]) -> Option<usize>
@@ -26,10 +26,13 @@ fn ill_formed(script: &[u8]) -> Option<usize>
 pub fn lex(alloc: Global, script: &[u8]) -> Result<Tokens<'_>, LexFault>
     ensures script { IfOk result (λ tokens. tokens.script ≡ script.now) }
     ensures tokens { IfOk result (λ tokens. lexed script.now ≡ Ok tokens.list) }
+    ensures cover { IfOk result (λ tokens. Covers 0 script.now tokens.list) }
     ensures bad { (place : ℕ) → result ≡ Err (LexFault.BadToken place) → lexed script.now ≡ Err place }
 {
     if let Some(place) = ill_formed(script) {
-        return Err(LexFault::BadToken { place: place as u64 });
+        return Err(LexFault::BadToken {
+            place: place as u64,
+        });
     }
     let mut list = Vec::new(alloc);
     let mut at = 0;
@@ -38,7 +41,11 @@ pub fn lex(alloc: Global, script: &[u8]) -> Result<Tokens<'_>, LexFault>
             Front::Gap(length) => at += length,
             Front::Lexeme(kind, length) => {
                 let end = at + length;
-                list.push(Token { kind, start: at, end })?;
+                list.push(Token {
+                    kind,
+                    start: at,
+                    end,
+                })?;
                 at = end;
             }
             Front::Bad => return Err(LexFault::BadToken { place: at as u64 }),

@@ -15,3 +15,6 @@ mod words;
 pub use fault::LexFault;
 pub use lexer::lex;
 pub use token::{Sign, Token, TokenKind, Tokens, Word};
+
+#[cfg(test)]
+mod tests;

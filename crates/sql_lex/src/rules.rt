@@ -5,7 +5,9 @@ ghost use Rattle.sql_lex.specs.Gaps.{block_comment_length};
 
 use crate::gaps::{before_close, is_blank, line_comment_length};
 use crate::names::{NAME_LIMIT, is_name_start, name_length};
-use crate::numbers::{WIDTH_LIMIT, begins_with_number, begins_with_point, decimal_width, digits_length, fits_integer};
+use crate::numbers::{
+    WIDTH_LIMIT, begins_with_number, begins_with_point, decimal_width, digits_length, fits_integer,
+};
 use crate::quotes::{is_quoted_name, to_closing};
 use crate::signs::{byte_sign, pair_sign};
 use crate::token::{Sign, TokenKind};
@@ -57,7 +59,10 @@ fn quoted_front(text: &[u8]) -> Front
 {
     let inside = &text[1..];
     match to_closing(b'"', inside) {
-        Some(length) if is_quoted_name(&inside[..length - 1]) => Front::Lexeme(TokenKind::QuotedName, length + 1),
+        Some(length) if is_quoted_name(&inside[..length - 1]) => Front::Lexeme(
+            TokenKind::QuotedName,
+            length + 1,
+        ),
         _ => Front::Bad,
     }
 }
@@ -81,7 +86,6 @@ fn number_front(text: &[u8]) -> Front
         Front::Bad
     }
 }
-
 
 /// A comment that begins with `/*`.
 fn block_comment_front(text: &[u8]) -> Front

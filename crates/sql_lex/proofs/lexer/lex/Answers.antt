@@ -1,4 +1,6 @@
-use Rattle.std.proofs.Common.{arith, refl, ap, sym, ◌∙◌, ◌≡◌, ◌++◌, ◌∷◌, [], Err, List, ◌+◌, drop}
+use Rattle.std.proofs.Common.{arith, refl, ap, sym, ◌∙◌, ◌≡◌, ◌++◌, ◌∷◌, [], Err, List, ◌+◌, drop, subst}
+use Rattle.sql_lex.specs.Cover.{Covers}
+use Rattle.sql_lex.proofs.CoverLemmas.{covers-tokens, within-tokens}
 use Rattle.sql_lex.specs.declared.token.Token.{Token}
 use Rattle.sql_lex.specs.Lexed.{tokens_from}
 use Rattle.sql_lex.proofs.LexedLemmas.{all_before, gap-fits, token-fits, step-gap, step-token, step-bad, step-end}
@@ -32,8 +34,8 @@ loop-at-preserved c =
     record {
       within = fits.1;
       so_far =
-        ap (λ (tokens : List Token). all_before tokens (tokens_from (c.loop-at.at + c.in-Lexeme.length) 0 (drop (c.loop-at.at + c.in-Lexeme.length) c.args.script.now))) c.in_ok-push-in-Lexeme.ensures.items
-        ∙ step-token c.args.script.now _ c.loop-at.at c.in-Lexeme.length c.in-Lexeme.kind c.loop-at.list.items _ refl c.in-Lexeme.ensures fits.0 fits.2 c.loop-at.invariant.so_far;
+          ap (λ (tokens : List Token). all_before tokens (tokens_from (c.loop-at.at + c.in-Lexeme.length) 0 (drop (c.loop-at.at + c.in-Lexeme.length) c.args.script.now))) c.in_ok-push-in-Lexeme.ensures.items
+          ∙ step-token c.args.script.now _ c.loop-at.at c.in-Lexeme.length c.in-Lexeme.kind c.loop-at.list.items _ refl c.in-Lexeme.ensures fits.0 fits.2 c.loop-at.invariant.so_far;
     }
 
 pub returns-in-Bad-clause-bad : goal.returns-in-Bad-clause-bad
@@ -44,3 +46,11 @@ returns-in-Bad-clause-bad c = λ place same.
 
 pub returns-clause-tokens : goal.returns-clause-tokens
 returns-clause-tokens c = c.in_default.ensures ∙ step-end c.args.script.now c.loop-at.at c.loop-at.list.items _ c.loop-at-test.false c.loop-at.invariant.so_far ∙ (cc)
+
+pub returns-clause-cover : goal.returns-clause-cover
+returns-clause-cover c =
+    let P : List Token → Type 0 = λ tokens. Covers 0 c.args.script.now tokens in
+    subst P (sym c.new.ensures.list) (covers-tokens c.args.script.now c.loop-at.list.items (step-end c.args.script.now c.loop-at.at c.loop-at.list.items _ c.loop-at-test.false c.loop-at.invariant.so_far))
+
+pub new-requires : goal.new-requires
+new-requires c = within-tokens c.args.script.now c.loop-at.list.items (step-end c.args.script.now c.loop-at.at c.loop-at.list.items _ c.loop-at-test.false c.loop-at.invariant.so_far)
