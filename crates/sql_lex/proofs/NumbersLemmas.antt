@@ -1,11 +1,12 @@
 -- Digits, their zeros and their value.
-use Rattle.std.proofs.Common.{◌≡◌, ℕ, ◌+◌, ◌*◌, ◌-◌, ◌<◌, ◌≤◌, ◌^◌, List, [], ◌∷◌, length, take, get_or, true, false, Bool, eqb, cond, arith, refl, ap, sym, ◌∙◌, subst, ◌⊎◌, inl, inr, ltb, nat_lt}
+use Rattle.std.proofs.Common.{◌≡◌, ℕ, ◌+◌, ◌*◌, ◌-◌, ◌<◌, ◌≤◌, ◌^◌, List, [], ◌∷◌, length, take, get_or, true, false, Bool, eqb, cond, arith, refl, ap, sym, ◌∙◌, subst, ◌⊎◌, inl, inr, ltb, nat_lt, Some, None}
+use Rattle.std.specs.Prelude.{if◌then◌else◌}
 use Rattle.std.specs.List.{prefix_len}
 use Rattle.std.specs.Char.{is_ascii_digit, digit_value}
 use Rattle.std.specs.Str.Parse.{digits_value}
-use Rattle.std.proofs.lemmas.Bool.{eqb-true, cases_Bool}
+use Rattle.std.proofs.lemmas.Bool.{lt-ltb, eqb-true, cases_Bool}
 use Rattle.std.proofs.lemmas.Bool.Decides.{nat_tests}
-use Rattle.std.proofs.lemmas.List.{length-take, get_or-take}
+use Rattle.std.proofs.lemmas.List.{length-take, get_or-take, take_all}
 use Rattle.std.proofs.lemmas.List.Sums.{prefix_len_passes}
 use Rattle.std.proofs.lemmas.Int.Digits.{digits_value_more}
 use Rattle.std.proofs.lemmas.Str.Parse.{digits_value-take-le}
@@ -49,3 +50,17 @@ next_value digits at value within is_digit so_far =
     let more : digits_value 10 (take (at + 1) digits) + 48 ≡ digits_value 10 (take at digits) * 10 + get_or digits at 0 = digit_value-more digits at within is_digit in
     let above : 48 ≤ get_or digits at 0 = digit-above (get_or digits at 0) is_digit in
     omega arith
+
+-- the integer of digits that write too much, and of those that don't
+pub no_integer : (digits : List ℕ) (at : ℕ) → 2 ^ 127 ≤ digits_value 10 (take at digits) → None ≡ (if nat_lt (digits_value 10 digits) (2 ^ 127) then Some (digits_value 10 digits) else None)
+no_integer digits at much = rw (too_much digits at much) refl
+
+pub an_integer : (digits : List ℕ) (at value : ℕ) → length digits ≤ at → value ≡ digits_value 10 (take at digits) → value < 2 ^ 127 → Some value ≡ (if nat_lt (digits_value 10 digits) (2 ^ 127) then Some (digits_value 10 digits) else None)
+an_integer digits at value all is small =
+    let same : value ≡ digits_value 10 digits = is ∙ ap (digits_value 10) (take_all at digits all) in
+    let P : ℕ → Type 0 = λ v. Some value ≡ (if nat_lt v (2 ^ 127) then Some v else None) in
+    subst P same (rw (lt-ltb value (2 ^ 127) small) refl)
+
+-- digits throughout are digits at each place
+pub all_digits : (text : List ℕ) (k : ℕ) → length text ≤ prefix_len is_ascii_digit text → k < length text → is_ascii_digit (get_or text k 0) ≡ true
+all_digits text k all within = prefix_len_passes is_ascii_digit text k 0 (omega arith)

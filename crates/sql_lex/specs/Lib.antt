@@ -8,3 +8,4 @@ pub mod Numbers
 pub mod Fronts
 pub mod Lexed
 pub mod Cover
+pub mod Values

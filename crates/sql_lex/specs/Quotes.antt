@@ -1,5 +1,5 @@
 -- Texts between quotes, in which a doubled quote stands for one.
-use Rattle.std.specs.Prelude.{ℕ, ◌+◌, List, [], ◌∷◌, ◌==◌, Option, None, Some, if◌then◌else◌}
+use Rattle.std.specs.Prelude.{◌≡◌, ◌≢◌, ℕ, ◌+◌, List, [], ◌∷◌, ◌++◌, length, ◌==◌, Option, None, Some, if◌then◌else◌}
 use Rattle.std.specs.Option.{option_map}
 
 -- how many bytes there are up to and with the quote that ends a text, behind the quote that begins it:
@@ -16,3 +16,21 @@ abbrev pub undoubled : ℕ → List ℕ → List ℕ
 undoubled quote [] = []
 undoubled quote (c ∷ []) = c ∷ []
 undoubled quote (c ∷ d ∷ rest) = if c == quote then c ∷ undoubled quote rest else c ∷ undoubled quote (d ∷ rest)
+
+-- a text with each quote in it doubled
+abbrev pub doubled : ℕ → List ℕ → List ℕ
+doubled quote [] = []
+doubled quote (c ∷ rest) = if c == quote then c ∷ c ∷ doubled quote rest else c ∷ doubled quote rest
+
+-- no quote stands at the front
+abbrev pub BeginsOther : ℕ → List ℕ → Type 0
+BeginsOther quote [] = Unit {0}
+BeginsOther quote (c ∷ rest) = c ≢ quote
+
+-- the first n bytes are some content with each quote in it doubled, and then a quote, behind which no quote stands
+pub record IsClosedAt (quote : ℕ) (text : List ℕ) (n : ℕ) : Type 0 where
+  pub content : List ℕ
+  pub rest : List ℕ
+  pub whole : text ≡ doubled quote content ++ quote ∷ rest
+  pub size : n ≡ length (doubled quote content) + 1
+  pub other : BeginsOther quote rest

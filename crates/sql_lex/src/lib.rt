@@ -10,11 +10,14 @@ mod quotes;
 mod rules;
 mod signs;
 mod token;
+mod values;
 mod words;
 
 pub use fault::LexFault;
 pub use lexer::lex;
+pub use quotes::quoted_texts;
 pub use token::{Sign, Token, TokenKind, Tokens, Word};
+pub use values::{integer_value, unquoted};
 
 #[cfg(test)]
 mod tests;

@@ -1,5 +1,5 @@
 //! Numbers: digits with at most one point.
-ghost use Rattle.std.specs.Prelude.{◌≡◌, ◌+◌, ◌<◌, ◌≤◌, ◌*◌, ◌^◌, ℕ, MatchOption, true, IsTrue, length, slice_index, nat_lt};
+ghost use Rattle.std.specs.Prelude.{◌≡◌, ◌+◌, ◌<◌, ◌≤◌, ◌*◌, ◌^◌, ℕ, MatchOption, true, IsTrue, length, slice_index, nat_lt, Some, None, if◌then◌else◌};
 ghost use Rattle.std.specs.Char.{is_ascii_digit};
 ghost use Rattle.std.specs.Str.Parse.{digits_value};
 ghost use Rattle.sql_lex.specs.Numbers as numbers;
@@ -72,17 +72,17 @@ fn with_digit(value: u128, digit: u8) -> Option<u128>
     Some(value * 10 + u128::from(digit))
 }
 
-/// Whether digits write an integer of at most 2^127 - 1.
-pub fn fits_integer(digits: &[u8]) -> bool
+/// The integer that digits write, if it is at most 2^127 - 1.
+pub fn integer_of(digits: &[u8]) -> Option<u128>
     requires { (k : ℕ) → k < length digits.now → is_ascii_digit (slice_index digits.now k) ≡ true }
-    ensures { result ≡ nat_lt (digits_value 10 digits.now) (2 ^ 127) }
+    ensures { result ≡ (if nat_lt (digits_value 10 digits.now) (2 ^ 127) then Some (digits_value 10 digits.now) else None) }
 {
     let mut value: u128 = 0;
     for byte in digits {
         match with_digit(value, *byte - b'0') {
             Some(more) => value = more,
-            None => return false,
+            None => return None,
         }
     }
-    true
+    Some(value)
 }

@@ -1,5 +1,5 @@
 //! Texts between quotes, in which a doubled quote stands for one.
-ghost use Rattle.std.specs.Prelude.{◌≡◌, ◌<◌, ◌≤◌, ◌+◌, ◌∷◌, length, drop, slice_index, IfSome};
+ghost use Rattle.std.specs.Prelude.{◌≡◌, ℕ, List, Some, ◌<◌, ◌≤◌, ◌+◌, ◌∷◌, ◌++◌, length, drop, slice_index, IfSome};
 ghost use Rattle.sql_lex.specs.Fronts.{is_quoted_name};
 ghost use Rattle.sql_lex.specs.Quotes as quotes;
 
@@ -24,7 +24,7 @@ pub fn to_closing(quote: u8, inside: &[u8]) -> Option<usize>
 }
 
 /// The number of bytes that the byte at a place between quotes is written with: two for a doubled quote.
-fn written_length(quote: u8, inside: &[u8], at: usize) -> usize
+pub fn written_length(quote: u8, inside: &[u8], at: usize) -> usize
     requires { at < length inside.now }
     ensures some { 0 < result }
     ensures within { at + result ≤ length inside.now }
@@ -52,4 +52,13 @@ pub fn is_quoted_name(inside: &[u8]) -> bool
         at += written;
     }
     0 < count && count <= NAME_LIMIT
+}
+
+/// The law of quotes. A text with its quotes doubled, and then a quote behind which no quote stands, ends there;
+/// a text ends nowhere else; and what it stands for is what was doubled.
+pub fn quoted_texts()
+    ensures ends { (quote : ℕ) (content rest : List ℕ) → quotes.BeginsOther quote rest → quotes.to_closing quote (quotes.doubled quote content ++ quote ∷ rest) ≡ Some (length (quotes.doubled quote content) + 1) }
+    ensures nowhere_else { (quote n : ℕ) (text : List ℕ) → quotes.to_closing quote text ≡ Some n → quotes.IsClosedAt quote text n }
+    ensures content { (quote : ℕ) (content : List ℕ) → quotes.undoubled quote (quotes.doubled quote content) ≡ content }
+{
 }

@@ -6,7 +6,7 @@ ghost use Rattle.sql_lex.specs.Gaps.{block_comment_length};
 use crate::gaps::{before_close, is_blank, line_comment_length};
 use crate::names::{NAME_LIMIT, is_name_start, name_length};
 use crate::numbers::{
-    WIDTH_LIMIT, begins_with_number, begins_with_point, decimal_width, digits_length, fits_integer,
+    WIDTH_LIMIT, begins_with_number, begins_with_point, decimal_width, digits_length, integer_of,
 };
 use crate::quotes::{is_quoted_name, to_closing};
 use crate::signs::{byte_sign, pair_sign};
@@ -80,10 +80,9 @@ fn number_front(text: &[u8]) -> Front
         }
         return Front::Lexeme(TokenKind::Decimal, whole + 1 + digits_length(fraction));
     }
-    if fits_integer(&text[..whole]) {
-        Front::Lexeme(TokenKind::Integer, whole)
-    } else {
-        Front::Bad
+    match integer_of(&text[..whole]) {
+        Some(_) => Front::Lexeme(TokenKind::Integer, whole),
+        None => Front::Bad,
     }
 }
 

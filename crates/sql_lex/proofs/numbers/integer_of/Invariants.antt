@@ -1,6 +1,6 @@
 use Rattle.std.proofs.Common.{◌≡◌, ◌<◌, ◌^◌, take}
 use Rattle.std.specs.Str.Parse.{digits_value}
-use Rattle.sql_lex.proofs.numbers.fits_integer.Given as goal
+use Rattle.sql_lex.proofs.numbers.integer_of.Given as goal
 
 -- the value of the digits so far, which is not too much
 abbrev pub invariant-loop-byte : goal.invariant-loop-byte
