@@ -88,24 +88,26 @@ pub to_closing-doubled_text : (quote : ℕ) (content rest : List ℕ) → Begins
 to_closing-doubled_text quote [] [] other = rw (eq-eqb quote quote refl) refl
 to_closing-doubled_text quote [] (d ∷ rest) other = rw (eq-eqb quote quote refl, ne_eqb d quote other) refl
 to_closing-doubled_text quote (c ∷ content) rest other = elim (cases_eq c quote) [
-    inl same ↦
+  | inl same ↦
       let twice : doubled quote (c ∷ content) ≡ c ∷ c ∷ doubled quote content = rw (eq-eqb c quote same) refl in
       let P : List ℕ → Type 0 = λ s. to_closing quote (s ++ quote ∷ rest) ≡ Some (length s + 1) in
       subst P (sym twice) (to_closing-doubled quote c c (doubled quote content ++ quote ∷ rest) same same ∙ ap (option_map (λ n. n + 2)) (to_closing-doubled_text quote content rest other) ∙ ap Some (omega arith))
   | inr plain ↦
       let once : doubled quote (c ∷ content) ≡ c ∷ doubled quote content = rw (ne_eqb c quote plain) refl in
       let P : List ℕ → Type 0 = λ s. to_closing quote (s ++ quote ∷ rest) ≡ Some (length s + 1) in
-      subst P (sym once) (to_closing-plain quote c (doubled quote content ++ quote ∷ rest) plain ∙ ap (option_map (λ n. n + 1)) (to_closing-doubled_text quote content rest other) ∙ ap Some (omega arith)) ]
+      subst P (sym once) (to_closing-plain quote c (doubled quote content ++ quote ∷ rest) plain ∙ ap (option_map (λ n. n + 1)) (to_closing-doubled_text quote content rest other) ∙ ap Some (omega arith))
+]
 
 pub undoubled-doubled_text : (quote : ℕ) (content : List ℕ) → undoubled quote (doubled quote content) ≡ content
 undoubled-doubled_text quote [] = refl
 undoubled-doubled_text quote (c ∷ content) = elim (cases_eq c quote) [
-    inl same ↦
+  | inl same ↦
       let twice : doubled quote (c ∷ content) ≡ c ∷ c ∷ doubled quote content = rw (eq-eqb c quote same) refl in
       ap (undoubled quote) twice ∙ undoubled-doubled quote c c (doubled quote content) same ∙ ap (λ (s : List ℕ). c ∷ s) (undoubled-doubled_text quote content)
   | inr plain ↦
       let once : doubled quote (c ∷ content) ≡ c ∷ doubled quote content = rw (ne_eqb c quote plain) refl in
-      ap (undoubled quote) once ∙ undoubled-plain quote c (doubled quote content) (inl plain) ∙ ap (λ (s : List ℕ). c ∷ s) (undoubled-doubled_text quote content) ]
+      ap (undoubled quote) once ∙ undoubled-plain quote c (doubled quote content) (inl plain) ∙ ap (λ (s : List ℕ). c ∷ s) (undoubled-doubled_text quote content)
+]
 
 -- what follows a quote that is doubled, or another byte
 pub closed-doubled : (quote c d n : ℕ) (rest : List ℕ) → c ≡ quote → d ≡ quote → IsClosedAt quote rest n → IsClosedAt quote (c ∷ d ∷ rest) (n + 2)
@@ -142,10 +144,13 @@ closed-moved quote k n text rest (Some m) behind on is = let same : m + k ≡ n 
 pub to_closing-is : (quote : ℕ) (text : List ℕ) (n : ℕ) → to_closing quote text ≡ Some n → IsClosedAt quote text n
 to_closing-is quote [] n is = cc
 to_closing-is quote (c ∷ []) n is = elim (cases_eq c quote) [
-    inl same ↦ let one : Some 1 ≡ Some n = rw (eq-eqb c quote same) at is in let P : ℕ → Type 0 = λ p. IsClosedAt quote (c ∷ []) p in let here : 1 ≡ n = cc in subst P here (closed-here quote c [] same tt)
-  | inr plain ↦ cc (rw (ne_eqb c quote plain) at is) ]
+  | inl same ↦ let one : Some 1 ≡ Some n = rw (eq-eqb c quote same) at is in let P : ℕ → Type 0 = λ p. IsClosedAt quote (c ∷ []) p in let here : 1 ≡ n = cc in subst P here (closed-here quote c [] same tt)
+  | inr plain ↦ cc (rw (ne_eqb c quote plain) at is)
+]
 to_closing-is quote (c ∷ d ∷ rest) n is = elim (cases_eq c quote) [
-    inl first ↦ elim (cases_eq d quote) [
-        inl second ↦ closed-moved quote 2 n (c ∷ d ∷ rest) rest (to_closing quote rest) (to_closing-is quote rest) (λ m. closed-doubled quote c d m rest first second) (sym (to_closing-doubled quote c d rest first second) ∙ is)
-      | inr other ↦ let one : Some 1 ≡ Some n = rw (eq-eqb c quote first, ne_eqb d quote other) at is in let P : ℕ → Type 0 = λ p. IsClosedAt quote (c ∷ d ∷ rest) p in let here : 1 ≡ n = cc in subst P here (closed-here quote c (d ∷ rest) first other) ]
-  | inr plain ↦ closed-moved quote 1 n (c ∷ d ∷ rest) (d ∷ rest) (to_closing quote (d ∷ rest)) (to_closing-is quote (d ∷ rest)) (λ m. closed-plain quote c m (d ∷ rest) plain) (sym (to_closing-plain quote c (d ∷ rest) plain) ∙ is) ]
+  | inl first ↦ elim (cases_eq d quote) [
+    | inl second ↦ closed-moved quote 2 n (c ∷ d ∷ rest) rest (to_closing quote rest) (to_closing-is quote rest) (λ m. closed-doubled quote c d m rest first second) (sym (to_closing-doubled quote c d rest first second) ∙ is)
+    | inr other ↦ let one : Some 1 ≡ Some n = rw (eq-eqb c quote first, ne_eqb d quote other) at is in let P : ℕ → Type 0 = λ p. IsClosedAt quote (c ∷ d ∷ rest) p in let here : 1 ≡ n = cc in subst P here (closed-here quote c (d ∷ rest) first other)
+  ]
+  | inr plain ↦ closed-moved quote 1 n (c ∷ d ∷ rest) (d ∷ rest) (to_closing quote (d ∷ rest)) (to_closing-is quote (d ∷ rest)) (λ m. closed-plain quote c m (d ∷ rest) plain) (sym (to_closing-plain quote c (d ∷ rest) plain) ∙ is)
+]

@@ -60,5 +60,4 @@ pub fn quoted_texts()
     ensures ends { (quote : ℕ) (content rest : List ℕ) → quotes.BeginsOther quote rest → quotes.to_closing quote (quotes.doubled quote content ++ quote ∷ rest) ≡ Some (length (quotes.doubled quote content) + 1) }
     ensures nowhere_else { (quote n : ℕ) (text : List ℕ) → quotes.to_closing quote text ≡ Some n → quotes.IsClosedAt quote text n }
     ensures content { (quote : ℕ) (content : List ℕ) → quotes.undoubled quote (quotes.doubled quote content) ≡ content }
-{
-}
+{}

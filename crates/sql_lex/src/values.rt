@@ -2,10 +2,9 @@
 ghost use Rattle.std.specs.Prelude.{◌≡◌, IfOk};
 ghost use Rattle.sql_lex.specs.Values as values;
 
-use std::alloc::{AllocError, Global};
-
 use crate::numbers::{digits_length, integer_of};
 use crate::quotes::written_length;
+use std::alloc::{AllocError, Global};
 
 /// The value of an integer's text, or `None` where a text is no integer of at most 2^127 - 1.
 pub fn integer_value(text: &[u8]) -> Option<i128>
