@@ -1,11 +1,9 @@
 -- What stands at the front of a text.
-use Rattle.std.proofs.Common.{◌≡◌, ℕ, zero, suc, ◌+◌, ◌-◌, ◌<◌, ◌≤◌, ◌^◌, List, [], ◌∷◌, length, take, drop, get_or, Some, None, true, false, Bool, cond, eqb, arith, refl, ap, sym, ◌∙◌, subst, ◌⊎◌, inl, inr}
+use Rattle.std.proofs.Common.{◌≡◌, ℕ, ◌<◌, List, [], ◌∷◌, length, take, get_or, Some, None, arith, ap, ◌∙◌}
 use Rattle.std.specs.Prelude.{Option}
 use Rattle.sql_lex.specs.declared.token.Sign.{Sign}
-use Rattle.sql_lex.specs.declared.token.TokenKind.{TokenKind}
 use Rattle.sql_lex.specs.declared.token.TokenKind.TheVariants as kind
-use Rattle.sql_lex.specs.declared.rules.Front.{Front}
-use Rattle.sql_lex.specs.declared.rules.Front.TheVariants.{Gap, Lexeme, Bad}
+use Rattle.sql_lex.specs.declared.rules.Front.TheVariants.{Lexeme, Bad}
 use Rattle.sql_lex.specs.Signs.{sign_of}
 use Rattle.sql_lex.specs.Fronts.{sign_front, sign_or, pair_at}
 

@@ -1,5 +1,5 @@
 -- A gap that stands at the front of a text is a blank or a comment.
-use Rattle.std.proofs.Common.{◌≡◌, ℕ, zero, suc, ◌+◌, ◌-◌, ◌<◌, ◌≤◌, List, [], ◌∷◌, ◌++◌, length, take, drop, Some, None, true, false, Bool, cond, eqb, arith, refl, ap, sym, ◌∙◌, subst, inl, inr, codes, ◌&&◌, one-add, ◌^◌}
+use Rattle.std.proofs.Common.{◌≡◌, ℕ, suc, ◌+◌, ◌-◌, List, [], ◌∷◌, ◌++◌, take, drop, Some, None, true, false, Bool, eqb, arith, refl, ap, sym, ◌∙◌, subst, inl, inr, codes, one-add, ◌^◌}
 use Rattle.std.specs.Prelude.{Option, if◌then◌else◌, not}
 use Rattle.std.specs.Option.{option_map}
 use Rattle.std.specs.List.{prefix_len, starts_with, list_all}

@@ -1,5 +1,5 @@
 -- How far it is to the end of a comment, one byte on.
-use Rattle.std.proofs.Common.{◌≡◌, ℕ, suc, ◌+◌, ◌<◌, List, [], ◌∷◌, length, drop, get_or, Some, None, false, eqb, arith, drop-cons, add-one, refl, ap, sym, ◌∙◌, take, ◌-◌, Bool}
+use Rattle.std.proofs.Common.{◌≡◌, ℕ, suc, ◌+◌, ◌<◌, List, ◌∷◌, length, drop, get_or, Some, None, false, eqb, arith, drop-cons, add-one, refl, ap, sym, ◌∙◌, take, ◌-◌, Bool}
 use Rattle.std.proofs.lemmas.List.{take_rest}
 use Rattle.std.specs.Prelude.{Option, codes}
 use Rattle.std.specs.Option.{option_map}

@@ -1,16 +1,15 @@
 -- What stands at the front of a text is a part of it, and has a byte at least.
-use Rattle.std.proofs.Common.{◌≡◌, ℕ, zero, suc, ◌+◌, ◌-◌, ◌<◌, ◌≤◌, List, [], ◌∷◌, length, take, drop, Some, None, true, false, Bool, cond, eqb, arith, refl, ap, sym, ◌∙◌, subst, ◌⊎◌, inl, inr, codes, ◌&&◌, ◌||◌}
+use Rattle.std.proofs.Common.{◌≡◌, ℕ, suc, ◌+◌, ◌<◌, ◌≤◌, List, [], ◌∷◌, length, take, drop, Some, None, true, false, Bool, eqb, arith, refl, sym, subst, inl, inr, codes, ◌&&◌, ◌||◌}
 use Rattle.std.specs.Prelude.{Option, if◌then◌else◌, IfSome, not}
 use Rattle.std.specs.Option.{option_map}
-use Rattle.std.specs.List.{prefix_len, starts_with}
-use Rattle.std.specs.Char.{is_ascii_digit, is_ascii_alphabetic}
-use Rattle.std.proofs.lemmas.Bool.{cases_Bool, or_cases, eqb-true, leb-true}
+use Rattle.std.specs.List.{starts_with}
+use Rattle.std.specs.Char.{is_ascii_digit}
+use Rattle.std.proofs.lemmas.Bool.{cases_Bool, eqb-true, leb-true}
 use Rattle.std.proofs.Math.Dec.{leb}
 use Rattle.std.proofs.lemmas.Bool.Decides.{nat_tests}
 use Rattle.std.proofs.lemmas.List.{length-drop}
 use Rattle.std.proofs.lemmas.List.Sums.{prefix_len-le-length}
 use Rattle.sql_lex.specs.declared.token.Sign.{Sign}
-use Rattle.sql_lex.specs.declared.token.TokenKind.{TokenKind}
 use Rattle.sql_lex.specs.declared.token.TokenKind.TheVariants as kind
 use Rattle.sql_lex.specs.declared.rules.Front.{Front}
 use Rattle.sql_lex.specs.declared.rules.Front.TheVariants.{Gap, Lexeme, Bad}
@@ -18,7 +17,7 @@ use Rattle.sql_lex.specs.Gaps.{is_blank, before_close, line_comment_length, bloc
 use Rattle.sql_lex.specs.Names.{is_name_start, is_name_byte, name_length}
 use Rattle.sql_lex.specs.Quotes.{to_closing}
 use Rattle.sql_lex.specs.Numbers.{begins_with_digit, begins_with_point, begins_with_number, digits_length}
-use Rattle.sql_lex.specs.Fronts.{front_of, name_front, kind_of_name, text_front, text_of, quoted_front, quoted_of, number_front, decimal_front, integer_front, sign_front, sign_or, pair_at, gap_of}
+use Rattle.sql_lex.specs.Fronts.{front_of, name_front, kind_of_name, text_front, text_of, quoted_front, quoted_of, number_front, sign_front, sign_or, gap_of}
 use Rattle.sql_lex.specs.Signs.{sign_of}
 use Rattle.sql_lex.specs.Words.{word_of}
 

@@ -1,5 +1,5 @@
 -- How far it is to the closing quote, one step on.
-use Rattle.std.proofs.Common.{◌≡◌, ◌≢◌, ℕ, suc, ◌+◌, ◌<◌, List, [], ◌∷◌, length, drop, get_or, Some, None, true, false, eqb, arith, drop-cons, add-one, refl, ap, ◌∙◌, sym, eq-eqb, ◌⊎◌, inl, inr, ◌≤◌, Bool, ◌++◌, subst}
+use Rattle.std.proofs.Common.{◌≡◌, ◌≢◌, ℕ, suc, ◌+◌, ◌<◌, List, [], ◌∷◌, length, drop, get_or, Some, None, false, arith, drop-cons, add-one, refl, ap, ◌∙◌, sym, eq-eqb, ◌⊎◌, inl, inr, ◌≤◌, Bool, ◌++◌, subst}
 use Rattle.std.specs.List.{list_all}
 use Rattle.std.proofs.Math.ListN.{drop_of_length-le}
 use Rattle.std.proofs.lemmas.Bool.{ne_eqb, lt-leb, cases_eq}

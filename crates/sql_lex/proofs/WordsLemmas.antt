@@ -1,11 +1,9 @@
 -- A name's word, by the first letter of the name.
-use Rattle.std.proofs.Common.{◌≡◌, ◌≢◌, ℕ, List, [], ◌∷◌, map, Some, None, eqb, false, sym, ◌∙◌, ap, subst, refl}
+use Rattle.std.proofs.Common.{◌≡◌, ◌≢◌, ℕ, List, [], ◌∷◌, map, Some, None, eqb, false, sym, ◌∙◌, ap, subst}
 use Rattle.std.proofs.lemmas.Bool.{ne_eqb}
-use Rattle.std.specs.Prelude.{Option}
 use Rattle.std.specs.Char.{to_ascii_lowercase}
 use Rattle.std.specs.List.{slice_get}
-use Rattle.sql_lex.specs.declared.token.Word.{Word}
-use Rattle.sql_lex.specs.Words.{word_of, word_spelled}
+use Rattle.sql_lex.specs.Words.{word_spelled}
 
 -- what is so of each list of letters that begins with k is so of a name's small letters, if its first is k
 pub by_letter : (k : ℕ) (P : List ℕ → Type 0) → ((rest : List ℕ) → P (k ∷ rest)) → (name : List ℕ) (first : ℕ) → Some first ≡ slice_get name 0 → to_ascii_lowercase first ≡ k → P (map to_ascii_lowercase name)

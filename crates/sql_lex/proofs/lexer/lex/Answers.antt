@@ -1,4 +1,4 @@
-use Rattle.std.proofs.Common.{arith, refl, ap, sym, ◌∙◌, ◌≡◌, ◌++◌, ◌∷◌, [], Err, List, ◌+◌, drop, subst}
+use Rattle.std.proofs.Common.{arith, refl, ap, sym, ◌∙◌, List, ◌+◌, drop, subst}
 use Rattle.sql_lex.specs.Cover.{Covers}
 use Rattle.sql_lex.proofs.CoverLemmas.{covers-tokens, within-tokens}
 use Rattle.sql_lex.specs.declared.token.Token.{Token}

@@ -1,5 +1,4 @@
-use Rattle.std.proofs.Common.{◌≡◌, ℕ, ◌-◌, ◌≤◌, length, drop}
-use Rattle.std.specs.Str.Lossy.{utf8_valid_len}
+use Rattle.std.proofs.Common.{◌≡◌, ◌-◌, ◌≤◌, length, drop}
 use Rattle.sql_lex.specs.Lexed.{tokens_from}
 use Rattle.sql_lex.proofs.LexedLemmas.{all_before}
 use Rattle.sql_lex.proofs.lexer.lex.Given as goal

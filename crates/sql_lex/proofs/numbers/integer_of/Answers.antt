@@ -1,4 +1,4 @@
-use Rattle.std.proofs.Common.{arith, sym, ◌∙◌, ◌+◌}
+use Rattle.std.proofs.Common.{arith, ◌∙◌, ◌+◌}
 use Rattle.sql_lex.proofs.NumbersLemmas.{next_value, no_integer, an_integer}
 use Rattle.sql_lex.proofs.numbers.integer_of.Goals as goal
 

@@ -1,4 +1,4 @@
-use Rattle.std.proofs.Common.{◌≡◌, ℕ, ◌+◌, ◌-◌, ◌≤◌, length, drop, nat_le}
+use Rattle.std.proofs.Common.{◌≡◌, ◌+◌, ◌-◌, ◌≤◌, length, drop, nat_le}
 use Rattle.std.specs.List.{list_all}
 use Rattle.sql_lex.specs.Quotes.{undoubled}
 use Rattle.sql_lex.proofs.quotes.is_quoted_name.Given as goal

@@ -1,4 +1,4 @@
-use Rattle.std.proofs.Common.{Some, None, ◌≡◌}
+use Rattle.std.proofs.Common.{Some, None}
 use Rattle.sql_lex.proofs.FrontsLemmas.{sign_front-pair, sign_front-byte}
 use Rattle.sql_lex.proofs.rules.sign_front.Goals as goal
 

@@ -1,5 +1,5 @@
 -- Each letter's words are those that the table has with it.
-use Rattle.std.proofs.Common.{◌≡◌, ◌≢◌, ℕ, List, ◌∷◌, Some, None, codes, arith, refl, sym}
+use Rattle.std.proofs.Common.{◌≡◌, Some, None, codes, arith, refl, sym}
 use Rattle.std.specs.Prelude.{if◌then◌else◌}
 use Rattle.std.specs.Str.{bytes_eq}
 use Rattle.sql_lex.specs.declared.token.Word.TheVariants.{All, And, As, Asc, Between, By, Copy, Create, Cross, Desc, Distinct, Drop, Except, Explain, False, From, Group, Having, In, Inner, Intersect, Is, Join, Left, Like, Limit, Not, Null, Offset, On, Or, Order, Outer, Select, Table, True, Union, Where}
