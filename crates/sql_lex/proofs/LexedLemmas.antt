@@ -1,16 +1,18 @@
 -- The walk from one token or gap to the next.
-use Rattle.std.proofs.Common.{◌≡◌, ℕ, zero, suc, ◌+◌, ◌-◌, ◌<◌, ◌≤◌, List, [], ◌∷◌, ◌++◌, length, take, drop, Ok, Err, arith, refl, ap, sym, ◌∙◌, append_assoc, append-nil, inl, inr}
+use Rattle.std.proofs.Common.{◌≡◌, ℕ, zero, suc, ◌+◌, ◌-◌, ◌<◌, ◌≤◌, List, [], ◌∷◌, ◌++◌, length, take, drop, Ok, Err, arith, refl, ap, sym, ◌∙◌, append_assoc, append-nil, inl, inr, true, false, eqb, get_or, drop-cons, ◌||◌}
 use Rattle.std.specs.Prelude.{Result}
 use Rattle.std.proofs.lemmas.List.{drop-drop, take_rest, length-drop}
 use Rattle.std.proofs.Math.ListN.{drop_of_length-le}
 use Rattle.std.specs.Str.{IsUtf8, is_utf8}
 use Rattle.std.specs.Str.Lossy.{utf8_valid_len}
 use Rattle.std.proofs.lemmas.Str.{is_utf8-from_IsUtf8, IsUtf8-from_is_utf8}
-use Rattle.std.proofs.lemmas.Bool.{cases_Bool}
+use Rattle.std.proofs.lemmas.Bool.{cases_Bool, or_cases, eqb-true}
 use Rattle.sql_lex.specs.declared.token.Token.{Token}
 use Rattle.sql_lex.specs.declared.token.TokenKind.{TokenKind}
 use Rattle.sql_lex.specs.declared.rules.Front.{Front}
 use Rattle.sql_lex.specs.declared.rules.Front.TheVariants.{Gap, Lexeme, Bad}
+use Rattle.sql_lex.specs.Gaps.{is_blank}
+use Rattle.sql_lex.specs.Names.{is_name_start}
 use Rattle.sql_lex.specs.Fronts.{front_of}
 use Rattle.sql_lex.proofs.Parts.{part-at}
 use Rattle.sql_lex.specs.Lexed.{lexed, tokens_from, with_front, front_length, before}
@@ -46,6 +48,16 @@ tokens_from-step place (suc m) (c ∷ rest) some within front =
     let behind : tokens_from (place + 1) (front_length (front_of (c ∷ rest)) - 1) rest ≡ tokens_from (place + suc m) 0 (drop m rest) =
     ap (λ (k : ℕ). tokens_from (place + 1) k rest) inside ∙ tokens_from-inside (place + 1) m rest (omega arith) ∙ ap (λ (p : ℕ). tokens_from p 0 (drop m rest)) (omega arith) in
     ap (with_front (front_of (c ∷ rest)) place) behind
+
+-- a blank begins no name, and is a gap of one byte
+pub blank-no_name : (c : ℕ) → is_blank c ≡ true → is_name_start c ≡ false
+blank-no_name c blank = elim (or_cases (eqb c 32 || eqb c 9) (eqb c 13 || eqb c 10) blank) [
+    inl first ↦ elim (or_cases (eqb c 32) (eqb c 9) first) [ inl space ↦ ap is_name_start (eqb-true c 32 space) | inr tab ↦ ap is_name_start (eqb-true c 9 tab) ]
+  | inr line ↦ elim (or_cases (eqb c 13) (eqb c 10) line) [ inl back ↦ ap is_name_start (eqb-true c 13 back) | inr end ↦ ap is_name_start (eqb-true c 10 end) ] ]
+
+pub blank-front : (c : ℕ) (rest : List ℕ) → is_blank c ≡ true → Gap 1 ≡ front_of (c ∷ rest)
+unfolding front_of
+blank-front c rest blank = rw (blank-no_name c blank, blank) refl
 
 -- where nothing stands, the place is bad
 pub tokens_from-bad : (place : ℕ) (text : List ℕ) → 0 < length text → Bad ≡ front_of text → tokens_from place 0 text ≡ Err place
@@ -114,3 +126,12 @@ lexed-ill_formed script place other there = elim (cases_Bool (is_utf8 script)) [
   | inl passes ↦ absurd (other (IsUtf8-from_is_utf8 script passes))
   | inr fails ↦ rw fails (ap Err (sym there))
 ]
+
+-- the loop's step over a blank
+pub step-blank : (script : List ℕ) (at : ℕ) (tokens : List Token) (whole : Result (List Token) ℕ) → at < length script → is_blank (get_or script at 0) ≡ true
+    → all_before tokens (tokens_from at 0 (drop at script)) ≡ whole → all_before tokens (tokens_from (at + 1) 0 (drop (at + 1) script)) ≡ whole
+step-blank script at tokens whole within blank so_far =
+    let cut : take (length script - at) (drop at script) ≡ get_or script at 0 ∷ drop (suc at) script = take_rest script at ∙ drop-cons script at 0 within in
+    let front : Gap 1 ≡ front_of (take (length script - at) (drop at script)) = blank-front (get_or script at 0) (drop (suc at) script) blank ∙ ap front_of (sym cut) in
+    let fits : (0 < 1) × (at + 1 ≤ length script) × (1 ≤ length (take (length script - at) (drop at script))) = gap-fits script (take (length script - at) (drop at script)) at 1 refl (omega arith) front in
+    step-gap script (take (length script - at) (drop at script)) at 1 tokens whole refl front fits.0 fits.2 so_far

@@ -4,6 +4,7 @@ ghost use Rattle.sql_lex.specs.Cover.{Covers};
 ghost use Rattle.sql_lex.specs.Lexed.{lexed, tokens_from};
 
 use crate::fault::LexFault;
+use crate::gaps::is_blank;
 use crate::rules::{Front, front_of};
 use crate::token::{Token, Tokens};
 use std::alloc::Global;
@@ -37,6 +38,11 @@ pub fn lex(alloc: Global, script: &[u8]) -> Result<Tokens<'_>, LexFault>
     let mut list = Vec::new(alloc);
     let mut at = 0;
     while at < script.len() {
+        // Half of what stands at the front of a script is a blank.
+        if is_blank(script[at]) {
+            at += 1;
+            continue;
+        }
         match front_of(&script[at..]) {
             Front::Gap(length) => at += length,
             Front::Lexeme(kind, length) => {

@@ -3,11 +3,11 @@ use Rattle.sql_lex.specs.Cover.{Covers}
 use Rattle.sql_lex.proofs.CoverLemmas.{covers-tokens, within-tokens}
 use Rattle.sql_lex.specs.declared.token.Token.{Token}
 use Rattle.sql_lex.specs.Lexed.{tokens_from}
-use Rattle.sql_lex.proofs.LexedLemmas.{all_before, gap-fits, token-fits, step-gap, step-token, step-bad, step-end}
+use Rattle.sql_lex.proofs.LexedLemmas.{all_before, gap-fits, token-fits, step-gap, step-token, step-bad, step-end, step-blank}
 use Rattle.sql_lex.proofs.lexer.lex.Goals as goal
 
-pub overflow_add-at : goal.overflow_add-at
-overflow_add-at c = omega (arith, (gap-fits c.args.script.now _ c.loop-at.at c.in-Gap.length refl c.loop-at.invariant.within c.in-Gap.ensures).1)
+pub overflow_add-at-in-Gap : goal.overflow_add-at-in-Gap
+overflow_add-at-in-Gap c = omega (arith, (gap-fits c.args.script.now _ c.loop-at.at c.in-Gap.length refl c.loop-at.invariant.within c.in-Gap.ensures).1)
 
 pub loop-at-smaller-in-Gap : goal.loop-at-smaller-in-Gap
 loop-at-smaller-in-Gap c =
@@ -54,3 +54,9 @@ returns-clause-cover c =
 
 pub new-requires : goal.new-requires
 new-requires c = within-tokens c.args.script.now c.loop-at.list.items (step-end c.args.script.now c.loop-at.at c.loop-at.list.items _ c.loop-at-test.false c.loop-at.invariant.so_far)
+
+pub loop-at-preserved-then-is_blank : goal.loop-at-preserved-then-is_blank
+loop-at-preserved-then-is_blank c = record {
+    within = omega arith;
+    so_far = step-blank c.args.script.now c.loop-at.at c.loop-at.list.items _ c.loop-at-test.true (cc) c.loop-at.invariant.so_far;
+  }
