@@ -1,0 +1,7 @@
+//! Exact decimal numbers: arithmetic, reading and printing.
+#![tactic(auto)]
+
+mod places;
+mod print;
+
+pub use print::print_number;
