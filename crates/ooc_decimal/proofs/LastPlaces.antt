@@ -1,6 +1,6 @@
 -- The last digits of a number: one more of them, and a number in two parts.
 use Rattle.std.proofs.Common.{◌≡◌, ℕ, suc, ◌+◌, ◌*◌, ◌/◌, ◌%◌, ◌^◌, ◌<◌, ◌≤◌, ◌-◌, List, [], ◌∷◌, ◌++◌, length, drop, refl, ◌∙◌, ap, sym, arith, append_assoc, decimal}
-use Rattle.std.proofs.lemmas.List.{drop-set, append-nil}
+use Rattle.std.proofs.lemmas.List.{drop-set, append-nil, length-append}
 use Rattle.std.proofs.lemmas.Nat.{div-mul-add, mod-mul-add, mod_below, div_below, pow-add}
 use Rattle.std.proofs.lemmas.Fmt.{decimal_digit, decimal_step_wide}
 use Rattle.std.proofs.Math.ListN.{set}
@@ -81,3 +81,7 @@ pub high_digits : (count n : ℕ) → 19 < count → places (count - 19) (n / 10
 high_digits count n many =
     let whole : count - 19 + 19 ≡ count = omega arith in
     ap (λ ds. places (count - 19) (n / 10 ^ 19) ++ ds) (of_rest 19 n) ∙ sym (in_two (count - 19) 19 n) ∙ ap (λ k. places k n) whole
+
+pub length-places : (count n : ℕ) → length (places count n) ≡ count
+length-places zero n = refl
+length-places (suc count) n = length-append (places count (n / 10)) ((48 + n % 10) ∷ []) ∙ omega (arith, length-places count (n / 10))

@@ -4,4 +4,4 @@
 mod places;
 mod print;
 
-pub use print::print_number;
+pub use print::{number_length, print_number};

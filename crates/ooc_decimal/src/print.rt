@@ -71,3 +71,23 @@ pub fn print_number(digits: i128, scale: u8, into: &mut Vec<u8>) -> Result<(), O
         }
     }
 }
+
+fn magnitude_length(n: u128, scale: u8) -> usize
+    requires { n ≤ 2 ^ 127 }
+    ensures length { result ≡ length (magnitude_text n scale) }
+    ensures short { result ≤ 295 }
+{
+    if scale == 0 {
+        return usize::from(digit_count(n));
+    }
+    let (whole, _part) = split_at_point(n, scale);
+    usize::from(digit_count(whole)) + 1 + usize::from(scale)
+}
+
+/// How many bytes `print_number` appends, at most 296.
+pub fn number_length(digits: i128, scale: u8) -> usize
+    ensures length { result ≡ length (number_text digits scale) }
+    ensures short { result ≤ 296 }
+{
+    usize::from(digits < 0) + magnitude_length(digits.unsigned_abs(), scale)
+}
