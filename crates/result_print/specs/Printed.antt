@@ -1,5 +1,5 @@
 -- The text of a result.
-use Rattle.std.specs.Prelude.{ℕ, Bool, true, false, ◌||◌, List, [], ◌∷◌, ◌++◌, ◌==◌, if◌then◌else◌, map, codes}
+use Rattle.std.specs.Prelude.{ℕ, Bool, true, false, ◌||◌, List, [], ◌∷◌, ◌++◌, ◌==◌, if◌then◌else◌, map, length, codes}
 use Rattle.std.specs.List.{list_any, flat_map, join_with_byte}
 use Rattle.std.specs.Str.{bytes_eq}
 use Rattle.ooc_types.specs.declared.value.Value.{Value}
@@ -13,15 +13,19 @@ is_special byte = (byte == 44) || (byte == 34) || (byte == 13) || (byte == 10)
 
 -- the empty text, the text NULL, and a text with a special byte
 abbrev pub needs_quotes : List ℕ → Bool
-needs_quotes bytes = bytes_eq bytes [] || bytes_eq bytes (codes "NULL") || list_any is_special bytes
+needs_quotes bytes = (length bytes == 0) || bytes_eq bytes (codes "NULL") || list_any is_special bytes
 
 -- a double quote is doubled
 abbrev pub doubled : ℕ → List ℕ
 doubled byte = if byte == 34 then 34 ∷ 34 ∷ [] else byte ∷ []
 
--- a text or a name: as it is, or in double quotes
-unfoldable pub field_text : List ℕ → List ℕ
-field_text bytes = if needs_quotes bytes then 34 ∷ flat_map doubled bytes ++ 34 ∷ [] else bytes
+-- a text in double quotes
+unfoldable pub quoted : List ℕ → List ℕ
+quoted bytes = 34 ∷ flat_map doubled bytes ++ 34 ∷ []
+
+-- a text or a name
+abbrev pub field_text : List ℕ → List ℕ
+field_text bytes = if needs_quotes bytes then quoted bytes else bytes
 
 abbrev pub value_text : Value → List ℕ
 value_text Null = codes "NULL"
@@ -30,9 +34,13 @@ value_text (Truth false) = codes "false"
 value_text (Number digits scale) = number_text digits scale
 value_text (Text bytes) = field_text bytes
 
+-- fields with a comma between two of them
+unfoldable pub joined : List (List ℕ) → List ℕ
+joined fields = join_with_byte 44 fields
+
 -- fields joined by commas, and a line feed
 abbrev pub line_text : List (List ℕ) → List ℕ
-line_text fields = join_with_byte 44 fields ++ 10 ∷ []
+line_text fields = joined fields ++ 10 ∷ []
 
 abbrev pub column_text : Column → List ℕ
 column_text column = field_text column.name

@@ -1,8 +1,8 @@
 //! One field of a line.
-ghost use Rattle.std.specs.Prelude.{◌≡◌, [], ◌∷◌, ◌++◌, OnOk, OnErr};
-ghost use Rattle.std.specs.List.{flat_map};
+ghost use Rattle.std.specs.Prelude.{◌≡◌, ◌++◌, OnOk, OnErr};
+ghost use Rattle.std.specs.List.{list_any};
 ghost use Rattle.result_print.specs.Printed as spec;
-ghost use Rattle.result_print.specs.Printed.{doubled, field_text, value_text};
+ghost use Rattle.result_print.specs.Printed.{doubled, quoted, field_text, value_text};
 ghost use Rattle.ooc_decimal.specs.Kept.{KeepsFront};
 
 use ooc_decimal::print_number;
@@ -14,23 +14,42 @@ fn is_special(byte: u8) -> bool
     byte == b',' || byte == b'"' || byte == b'\r' || byte == b'\n'
 }
 
+fn has_special(bytes: &[u8]) -> bool
+    ensures { result ≡ list_any spec.is_special bytes.now }
+{
+    for byte in bytes {
+        if is_special(*byte) {
+            return true;
+        }
+    }
+    false
+}
+
 /// Whether a text stands in quotes.
 pub fn needs_quotes(bytes: &[u8]) -> bool
     ensures { result ≡ spec.needs_quotes bytes.now }
 {
-    bytes.is_empty() || bytes == b"NULL" || bytes.iter().any(|byte| is_special(*byte))
+    bytes.is_empty() || bytes == b"NULL".as_slice() || has_special(bytes)
+}
+
+fn push_doubled(byte: u8, into: &mut Vec<u8>) -> Result<(), OutOfMemory>
+    ensures ok { OnOk result (into.new.items ≡ into.old.items ++ doubled byte) }
+    ensures err { OnErr result (KeepsFront into.old.items into.new.items) }
+{
+    if byte == b'"' {
+        into.push(b'"')?;
+    }
+    into.push(byte)?;
+    Ok(())
 }
 
 fn push_quoted(bytes: &[u8], into: &mut Vec<u8>) -> Result<(), OutOfMemory>
-    ensures ok { OnOk result (into.new.items ≡ into.old.items ++ 34 ∷ flat_map doubled bytes.now ++ 34 ∷ []) }
+    ensures ok { OnOk result (into.new.items ≡ into.old.items ++ quoted bytes.now) }
     ensures err { OnErr result (KeepsFront into.old.items into.new.items) }
 {
     into.push(b'"')?;
     for byte in bytes {
-        if *byte == b'"' {
-            into.push(b'"')?;
-        }
-        into.push(*byte)?;
+        push_doubled(*byte, into)?;
     }
     into.push(b'"')?;
     Ok(())
