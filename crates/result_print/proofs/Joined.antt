@@ -1,6 +1,6 @@
 -- Joined fields, from the first on; and a quoted text.
-use Rattle.std.proofs.Common.{◌≡◌, ℕ, List, [], ◌∷◌, ◌++◌, map, refl, ◌∙◌, ap, sym, append_assoc, Result, Ok, Err, OnErr}
-use Rattle.std.specs.List.{flat_map, join_with_byte}
+use Rattle.std.proofs.Common.{◌≡◌, ℕ, List, [], ◌∷◌, ◌++◌, map, refl, ◌∙◌, ap, append_assoc, Result, Ok, Err, OnErr}
+use Rattle.std.specs.List.{flat_map}
 use Rattle.std.proofs.lemmas.List.{append-nil}
 use Rattle.result_print.specs.Printed.{joined, quoted, doubled}
 use Rattle.ooc_decimal.specs.Kept.{KeepsFront}

@@ -1,5 +1,5 @@
 -- The text of a result.
-use Rattle.std.specs.Prelude.{ℕ, Bool, true, false, ◌||◌, List, [], ◌∷◌, ◌++◌, ◌==◌, if◌then◌else◌, map, length, codes}
+use Rattle.std.specs.Prelude.{ℕ, Bool, true, false, ◌||◌, List, [], ◌∷◌, ◌++◌, ◌==◌, if◌then◌else◌, map, length, codes, ◌≤◌, ⊤}
 use Rattle.std.specs.List.{list_any, flat_map, join_with_byte}
 use Rattle.std.specs.Str.{bytes_eq}
 use Rattle.ooc_types.specs.declared.value.Value.{Value}
@@ -56,3 +56,10 @@ row_text row = line_text (map value_text row)
 -- a whole result: the header line, a line for each row, and an empty line
 unfoldable pub block_text : List Column → List (List Value) → List ℕ
 block_text columns rows = header_text columns ++ flat_map row_text rows ++ 10 ∷ []
+
+-- a value whose text is within the limit of a row's texts
+abbrev pub IsShort : Value → Type 0
+IsShort (Text bytes) = length bytes ≤ 4095
+IsShort (Number digits scale) = ⊤
+IsShort (Truth truth) = ⊤
+IsShort Null = ⊤

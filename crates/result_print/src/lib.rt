@@ -2,6 +2,8 @@
 #![tactic(auto)]
 
 mod field;
+mod length;
 mod line;
 
+pub use length::row_length;
 pub use line::{print_header, print_row};
