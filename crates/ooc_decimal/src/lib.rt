@@ -2,6 +2,8 @@
 #![tactic(auto)]
 
 mod places;
+mod powers;
 mod print;
+mod range;
 
 pub use print::{number_length, print_number};

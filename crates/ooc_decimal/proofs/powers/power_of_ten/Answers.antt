@@ -1,0 +1,7 @@
+use Rattle.std.proofs.Common.{refl}
+use Rattle.ooc_decimal.specs.declared.powers.TheConstants.{POWERS}
+use Rattle.ooc_decimal.proofs.PowerTable.{in_table}
+use Rattle.ooc_decimal.proofs.powers.power_of_ten.Goals as goal
+
+pub returns : goal.returns
+returns c = in_table POWERS c.args.places 0 refl refl c.requires

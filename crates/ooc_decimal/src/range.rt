@@ -1,0 +1,23 @@
+//! The ranges of the types of numbers.
+ghost use Rattle.std.specs.Prelude.{◌≡◌, ◌↔◌, IsTrue};
+ghost use Rattle.std.specs.Option.{SomeIff};
+ghost use Rattle.ooc_types.specs.Meets.{IsInRange};
+ghost use Rattle.ooc_decimal.specs.Numeric.{IsNumeric, signed};
+
+use crate::powers::power_of_ten;
+use ooc_types::SqlType;
+
+/// The digits, where they are in the range of the type.
+pub fn in_range(digits: i128, kind: SqlType) -> Option<i128>
+    requires { IsNumeric kind }
+    ensures { SomeIff result (IsInRange kind digits) digits }
+{
+    let fits = match kind {
+        SqlType::Integer => -2_147_483_648 <= digits && digits <= 2_147_483_647,
+        SqlType::BigInt => -9_223_372_036_854_775_808 <= digits && digits <= 9_223_372_036_854_775_807,
+        SqlType::HugeInt => digits != i128::MIN,
+        SqlType::Decimal { width, .. } => digits.unsigned_abs() < power_of_ten(width),
+        SqlType::Boolean | SqlType::Varchar => false,
+    };
+    if fits { Some(digits) } else { None }
+}
