@@ -1,3 +1,4 @@
 pub mod Printed
 pub mod Kept
 pub mod Numeric
+pub mod Numeral

@@ -5,5 +5,6 @@ mod places;
 mod powers;
 mod print;
 mod range;
+mod trim;
 
 pub use print::{number_length, print_number};
