@@ -1,3 +1,5 @@
 pub mod LastPlaces
 pub mod Point
 pub mod PowerTable
+pub mod NumberAfter
+pub mod OutOfRange

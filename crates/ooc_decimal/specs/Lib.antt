@@ -2,3 +2,4 @@ pub mod Printed
 pub mod Kept
 pub mod Numeric
 pub mod Numeral
+pub mod Digits

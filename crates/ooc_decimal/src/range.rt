@@ -2,7 +2,7 @@
 ghost use Rattle.std.specs.Prelude.{◌≡◌, ◌↔◌, IsTrue};
 ghost use Rattle.std.specs.Option.{SomeIff};
 ghost use Rattle.ooc_types.specs.Meets.{IsInRange};
-ghost use Rattle.ooc_decimal.specs.Numeric.{IsNumeric, signed};
+ghost use Rattle.ooc_decimal.specs.Numeric.{IsNumeric, signed, scale_of};
 
 use crate::powers::power_of_ten;
 use ooc_types::SqlType;
@@ -20,4 +20,26 @@ pub fn in_range(digits: i128, kind: SqlType) -> Option<i128>
         SqlType::Boolean | SqlType::Varchar => false,
     };
     if fits { Some(digits) } else { None }
+}
+
+/// How many digits stand behind the point.
+pub fn scale(kind: SqlType) -> u8
+    ensures { result ≡ scale_of kind }
+{
+    match kind {
+        SqlType::Decimal { scale, .. } => scale,
+        SqlType::Boolean | SqlType::Integer | SqlType::BigInt | SqlType::HugeInt | SqlType::Varchar => 0,
+    }
+}
+
+/// The number of this sign and magnitude, where it is in the range of the type.
+pub fn within(negative: bool, magnitude: u128, kind: SqlType) -> Option<i128>
+    requires { IsNumeric kind }
+    ensures { SomeIff result (IsInRange kind (signed negative magnitude)) (signed negative magnitude) }
+{
+    if magnitude > i128::MAX as u128 {
+        return None;
+    }
+    let size = magnitude as i128;
+    in_range(if negative { -size } else { size }, kind)
 }
