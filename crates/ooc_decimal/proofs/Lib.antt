@@ -3,3 +3,5 @@ pub mod Point
 pub mod PowerTable
 pub mod NumberAfter
 pub mod OutOfRange
+pub mod Rounding
+pub mod Spelled

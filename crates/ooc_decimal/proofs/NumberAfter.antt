@@ -38,7 +38,7 @@ pub number_after-append : (n : ℕ) (front back : List ℕ) → number_after n (
 number_after-append n [] back = refl
 number_after-append n (digit ∷ digits) back = number_after-append (n * 10 + (digit - 48)) digits back
 
-and_true : (a b : Bool) → (a && b) ≡ true → (a ≡ true) × (b ≡ true)
+pub and_true : (a b : Bool) → (a && b) ≡ true → (a ≡ true) × (b ≡ true)
 and_true true b e = (refl, e)
 and_true false b e = absurd (false≢true e)
 
