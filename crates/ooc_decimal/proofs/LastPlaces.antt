@@ -1,10 +1,10 @@
 -- The last digits of a number: one more of them, and a number in two parts.
 use Rattle.std.proofs.Common.{◌≡◌, ℕ, suc, ◌+◌, ◌*◌, ◌/◌, ◌%◌, ◌^◌, ◌<◌, ◌≤◌, ◌-◌, List, [], ◌∷◌, ◌++◌, length, drop, refl, ◌∙◌, ap, sym, arith, append_assoc, decimal}
 use Rattle.std.proofs.lemmas.List.{drop-set, append-nil, length-append}
-use Rattle.std.proofs.lemmas.Nat.{div-mul-add, mod-mul-add, mod_below, div_below, pow-add}
+use Rattle.std.proofs.lemmas.Nat.{div-mul-add, mod-mul-add, mod_below, pow-add}
 use Rattle.std.proofs.lemmas.Fmt.{decimal_digit, decimal_step_wide}
 use Rattle.std.proofs.Math.ListN.{set}
-use Rattle.std.proofs.Math.Nat.{pow-suc, pow-zero, div-one, div-div-eq-div-mul, one-le-pow, mul_comm, pow-le-pow_right, mod-mod_of_dvd, dvd-mul_right}
+use Rattle.std.proofs.Math.Nat.{pow-suc, pow-zero, div-one, div-div-eq-div-mul, one-le-pow, mul_comm, mod-mod_of_dvd, dvd-mul_right}
 use Rattle.std.proofs.Math.Arith.{mod-mul}
 use Prim.Native.Nat.{zero}
 use Rattle.ooc_decimal.specs.Printed.{places}

@@ -5,3 +5,4 @@ pub mod NumberAfter
 pub mod OutOfRange
 pub mod Rounding
 pub mod Spelled
+pub mod Signs

@@ -3,7 +3,7 @@ use Rattle.std.proofs.Common.{◌≡◌, ℕ, ◌+◌, ◌-◌, ◌*◌, ◌^◌
 use Rattle.std.specs.Option.{SomeIff}
 use Rattle.std.proofs.lemmas.Bool.{false≢true}
 use Rattle.ooc_decimal.specs.Digits.{ReadsOn}
-use Rattle.std.proofs.lemmas.List.{at_drop_more, at_drop_all}
+use Rattle.std.proofs.lemmas.List.{at_drop_more}
 use Rattle.std.proofs.Math.Nat.{le-mul_of_pos_right, pow-le-pow_right, one-le-pow}
 use Rattle.std.specs.Str.{all_ascii_digits}
 use Rattle.ooc_decimal.specs.Numeral.{number_after}

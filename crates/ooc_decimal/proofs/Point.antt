@@ -1,5 +1,5 @@
 -- The parts of a number before and behind its point, and its text.
-use Rattle.std.proofs.Common.{◌≡◌, ℕ, suc, ◌+◌, ◌*◌, ◌/◌, ◌%◌, ◌^◌, ◌<◌, ◌≤◌, List, [], ◌∷◌, ◌++◌, refl, ◌∙◌, ap, sym, arith, append_assoc, length, length-append, decimal}
+use Rattle.std.proofs.Common.{◌≡◌, ℕ, suc, ◌+◌, ◌/◌, ◌%◌, ◌^◌, ◌<◌, ◌≤◌, [], ◌∷◌, ◌++◌, refl, ◌∙◌, ap, sym, arith, append_assoc, length, length-append, decimal}
 use Rattle.std.proofs.Math.Nat.{one-le-pow, pow-le-pow_right, div-eq_of_lt, mod-eq_of_lt}
 use Prim.Native.Nat.{zero}
 use Rattle.ooc_decimal.specs.Printed.{places, magnitude_text}

@@ -1,14 +1,13 @@
 -- What a text spells, by its parts.
-use Rattle.std.proofs.Common.{◌≡◌, ℕ, ℤ, suc, ◌+◌, ◌-◌, ◌*◌, ◌^◌, ◌<◌, ◌≤◌, Bool, true, false, cond, List, [], ◌∷◌, ◌++◌, length, refl, ◌∙◌, ap, sym, subst, arith, Option, Some, None, ltb}
+use Rattle.std.proofs.Common.{◌≡◌, ℕ, ℤ, ◌-◌, ◌*◌, ◌^◌, ◌<◌, ◌≤◌, Bool, true, false, cond, List, ◌++◌, length, refl, ◌∙◌, ap, sym, subst, arith, Option, Some, None, ltb}
 use Rattle.std.specs.Option.{SomeIff, MatchOption}
 use Rattle.std.specs.Str.{all_ascii_digits}
-use Rattle.std.proofs.lemmas.Bool.{false≢true, ltb-true, ltb-false}
+use Rattle.std.proofs.lemmas.Bool.{ltb-true, ltb-false}
 use Rattle.std.proofs.lemmas.Bool.Decides.{nat_tests}
-use Rattle.std.proofs.lemmas.List.{length-append}
 use Rattle.ooc_types.specs.declared.schema.SqlType.{SqlType}
 use Rattle.ooc_types.specs.Meets.{IsInRange}
 use Rattle.ooc_decimal.specs.Numeric.{IsNumeric, signed, scale_of}
-use Rattle.ooc_decimal.specs.Numeral.{number_after, rounded, is_numeral, magnitude, spelled, trimmed, has_minus, without_sign, whole_of, part_of}
+use Rattle.ooc_decimal.specs.Numeral.{number_after, is_numeral, magnitude, spelled, trimmed, has_minus, without_sign, whole_of, part_of}
 use Rattle.ooc_decimal.specs.Digits.{ReadsScaled, ReadsMagnitude}
 use Rattle.ooc_decimal.proofs.NumberAfter.{carried}
 use Rattle.ooc_decimal.proofs.Rounding.{exact}

@@ -1,9 +1,9 @@
 -- The number that a text spells.
-use Rattle.std.specs.Prelude.{ℕ, ℤ, Bool, true, false, ◌||◌, ◌&&◌, not, List, [], ◌∷◌, ◌++◌, ◌+◌, ◌-◌, ◌*◌, ◌/◌, ◌^◌, ◌==◌, if◌then◌else◌, length, reverse, Option, Some, None}
+use Rattle.std.specs.Prelude.{ℕ, ℤ, Bool, false, ◌||◌, ◌&&◌, not, List, [], ◌∷◌, ◌++◌, ◌+◌, ◌-◌, ◌*◌, ◌/◌, ◌^◌, ◌==◌, if◌then◌else◌, length, reverse, Option, Some, None}
 use Rattle.std.specs.List.{before_first, after_first}
 use Rattle.std.specs.Str.{all_ascii_digits}
 use Rattle.ooc_types.specs.declared.schema.SqlType.{SqlType}
-use Rattle.ooc_types.specs.declared.schema.SqlType.TheVariants.{Boolean, Integer, BigInt, HugeInt, Decimal, Varchar}
+use Rattle.ooc_types.specs.declared.schema.SqlType.TheVariants.{Decimal}
 use Rattle.ooc_decimal.specs.Numeric.{scale_of, signed}
 
 -- a space or a tab

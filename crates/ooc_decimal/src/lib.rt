@@ -1,13 +1,16 @@
 //! Exact decimal numbers: arithmetic, reading and printing.
 #![tactic(auto)]
 
+mod arithmetic;
 mod digits;
 mod places;
 mod powers;
 mod print;
 mod range;
 mod read;
+mod signed;
 mod trim;
 
+pub use arithmetic::{add, mul, negate, quotient, remainder, sub};
 pub use read::read_number;
 pub use print::{number_length, print_number};

@@ -1,7 +1,6 @@
 //! The ranges of the types of numbers.
 ghost use Rattle.std.specs.Prelude.{◌≡◌, ◌↔◌, IsTrue};
-ghost use Rattle.std.specs.Option.{SomeIff};
-ghost use Rattle.ooc_types.specs.Meets.{IsInRange};
+ghost use Rattle.ooc_decimal.specs.Exact.{IsExact};
 ghost use Rattle.ooc_decimal.specs.Numeric.{IsNumeric, signed, scale_of};
 
 use crate::powers::power_of_ten;
@@ -10,7 +9,7 @@ use ooc_types::SqlType;
 /// The digits, where they are in the range of the type.
 pub fn in_range(digits: i128, kind: SqlType) -> Option<i128>
     requires { IsNumeric kind }
-    ensures { SomeIff result (IsInRange kind digits) digits }
+    ensures { IsExact kind digits result }
 {
     let fits = match kind {
         SqlType::Integer => -2_147_483_648 <= digits && digits <= 2_147_483_647,
@@ -35,7 +34,7 @@ pub fn scale(kind: SqlType) -> u8
 /// The number of this sign and magnitude, where it is in the range of the type.
 pub fn within(negative: bool, magnitude: u128, kind: SqlType) -> Option<i128>
     requires { IsNumeric kind }
-    ensures { SomeIff result (IsInRange kind (signed negative magnitude)) (signed negative magnitude) }
+    ensures { IsExact kind (signed negative magnitude) result }
 {
     if magnitude > i128::MAX as u128 {
         return None;

@@ -1,7 +1,6 @@
 //! Reading a number.
 ghost use Rattle.std.specs.Prelude.{◌≡◌, ◌≤◌, ◌<◌, ◌^◌, ◌++◌, true, MatchOption, None, length};
-ghost use Rattle.std.specs.Option.{SomeIff};
-ghost use Rattle.ooc_types.specs.Meets.{IsInRange};
+ghost use Rattle.ooc_decimal.specs.Exact.{IsExact};
 ghost use Rattle.ooc_decimal.specs.Numeric.{IsNumeric, signed, scale_of};
 ghost use Rattle.ooc_decimal.specs.Numeral.{spelled, whole_of, part_of};
 ghost use Rattle.ooc_decimal.specs.Digits.{ReadsOn, ReadsScaled, ReadsRounded, ReadsMagnitude};
@@ -82,7 +81,7 @@ fn split_at_point(numeral: &[u8], kind: SqlType) -> (&[u8], &[u8])
 pub fn read_number(text: &[u8], kind: SqlType) -> Option<i128>
     requires { IsNumeric kind }
     ensures { MatchOption (spelled kind text.now) (result ≡ None)
-        (λ digits. SomeIff result (IsInRange kind digits) digits) }
+        (λ digits. IsExact kind digits result) }
 {
     let (negative, numeral) = split_sign(trim(text));
     let (whole, part) = split_at_point(numeral, kind);

@@ -1,4 +1,4 @@
-use Rattle.std.proofs.Common.{◌+◌, ◌-◌, ◌%◌, length, arith, length-set}
+use Rattle.std.proofs.Common.{◌+◌, ◌-◌, ◌%◌, arith, length-set}
 use Rattle.ooc_decimal.proofs.LastPlaces.{one_more}
 use Rattle.ooc_decimal.proofs.places.fill_places.Goals as goal
 

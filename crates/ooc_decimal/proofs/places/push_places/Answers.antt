@@ -1,5 +1,4 @@
-use Rattle.std.proofs.Common.{rules, append_assoc, arith}
-use Rattle.std.proofs.lemmas.Result.{IfOk-equal}
+use Rattle.std.proofs.Common.{arith}
 use Rattle.std.proofs.lemmas.Grind.{common_steps}
 use Rattle.ooc_decimal.proofs.LastPlaces.{low_digits, high_digits}
 use Rattle.ooc_decimal.proofs.places.push_places.Goals as goal

@@ -1,4 +1,4 @@
-use Rattle.std.proofs.Common.{◌≡◌, ◌+◌, ◌/◌, ◌^◌, ℕ, length, decimal, sym, ap, ◌∙◌, arith, subst}
+use Rattle.std.proofs.Common.{◌≡◌, ℕ, length, decimal, sym, ap, ◌∙◌, arith, subst}
 use Rattle.ooc_decimal.specs.Printed.{places, magnitude_text}
 use Rattle.ooc_decimal.proofs.Point.{length_whole, length_pointed}
 use Rattle.ooc_decimal.proofs.print.magnitude_length.Goals as goal

@@ -1,4 +1,4 @@
-use Rattle.std.proofs.Common.{rules, append_assoc, arith, ◌∙◌, ap, sym}
+use Rattle.std.proofs.Common.{arith}
 use Rattle.std.proofs.lemmas.Grind.{common_steps}
 use Rattle.ooc_decimal.proofs.Point.{whole_text, pointed_text}
 use Rattle.ooc_decimal.proofs.print.push_magnitude.Goals as goal

@@ -1,4 +1,4 @@
-use Rattle.std.proofs.Common.{◌^◌, ◌<◌, ap, sym, arith}
+use Rattle.std.proofs.Common.{◌^◌, ap, arith}
 use Rattle.ooc_decimal.proofs.Point.{no_whole, all_part, unit_above}
 use Rattle.ooc_decimal.proofs.print.split_narrow.Goals as goal
 

@@ -1,6 +1,5 @@
-use Rattle.std.proofs.Common.{◌≡◌, ◌++◌, ◌+◌, ◌<◌, ◌^◌, ℕ, length, true, sym, ◌∙◌, ap, subst, arith}
+use Rattle.std.proofs.Common.{◌++◌, ◌+◌, ◌<◌, ◌^◌, ℕ, length, sym, ◌∙◌, ap, subst}
 use Rattle.std.specs.Str.{all_ascii_digits}
-use Rattle.ooc_decimal.specs.Numeral.{number_after, rounded}
 use Rattle.ooc_decimal.proofs.NumberAfter.{digits_behind}
 use Rattle.ooc_decimal.proofs.Rounding.{rounds_down, rounds_up, not_rounded, not_digits, one_more}
 use Rattle.ooc_decimal.proofs.read.read_rounded.Goals as goal

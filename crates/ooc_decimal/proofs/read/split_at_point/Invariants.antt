@@ -1,4 +1,4 @@
-use Rattle.std.proofs.Common.{◌≡◌, ◌+◌, ◌≤◌, drop}
+use Rattle.std.proofs.Common.{◌≡◌, ◌+◌, drop}
 use Rattle.std.specs.List.{position_or_len}
 use Rattle.ooc_decimal.specs.Numeral.{is_point}
 use Rattle.ooc_decimal.proofs.read.split_at_point.Given as goal
