@@ -1,11 +1,13 @@
 -- The number that digits spell, as it is read.
-use Rattle.std.proofs.Common.{◌≡◌, ℕ, ◌+◌, ◌-◌, ◌*◌, ◌^◌, ◌<◌, ◌≤◌, Bool, true, false, ◌&&◌, List, [], ◌∷◌, ◌++◌, length, get_or, drop, refl, ◌∙◌, ap, sym, subst, arith, Option}
+use Rattle.std.proofs.Common.{◌≡◌, ℕ, suc, ◌+◌, ◌-◌, ◌*◌, ◌^◌, ◌<◌, ◌≤◌, Bool, true, false, ◌&&◌, List, [], ◌∷◌, ◌++◌, length, get_or, drop, refl, ◌∙◌, ap, sym, subst, arith, Option}
 use Rattle.std.specs.Option.{SomeIff}
 use Rattle.std.proofs.lemmas.Bool.{false≢true}
 use Rattle.ooc_decimal.specs.Digits.{ReadsOn}
 use Rattle.std.proofs.lemmas.List.{at_drop_more}
-use Rattle.std.proofs.Math.Nat.{le-mul_of_pos_right, pow-le-pow_right, one-le-pow}
+use Rattle.std.proofs.Math.Nat.{le-mul_of_pos_right, pow-le-pow_right, one-le-pow, pow-suc}
 use Rattle.std.specs.Str.{all_ascii_digits}
+use Rattle.std.specs.Char.{is_ascii_digit}
+use Rattle.std.proofs.lemmas.Bool.Decides.{nat_tests}
 use Rattle.ooc_decimal.specs.Numeral.{number_after}
 
 -- more digits make no number smaller
@@ -75,3 +77,18 @@ pub not_scaled : (digits : List ℕ) (zeros : ℕ) → ((all_ascii_digits digits
 not_scaled digits zeros none both =
     let some : 0 < 10 ^ zeros = one-le-pow zeros 10 (omega arith) in
     none (both.0, omega (arith, le-mul_of_pos_right {m = 10 ^ zeros} (number_after 0 digits) some, both.1))
+
+pub is_digit : (byte : ℕ) → is_ascii_digit byte ≡ true → (48 ≤ byte) × (byte < 58)
+is_digit byte e = (grind (arith, nat_tests), grind (arith, nat_tests))
+
+-- one digit more, while all have at most 18
+pub narrow_step : (value digit places : ℕ) → value < 10 ^ places → digit < 10 → value * 10 + digit < 10 ^ (places + 1)
+narrow_step value digit places small one =
+    let next : places + 1 ≡ suc places = omega arith in
+    rw next (omega (arith, pow-suc 10 places))
+
+pub narrow_pair_read : (front back : List ℕ) (value : ℕ) (o : Option ℕ) → all_ascii_digits front ≡ true → value ≡ number_after 0 front → SomeIff o (all_ascii_digits back ≡ true) (number_after value back) → SomeIff o (all_ascii_digits (front ++ back) ≡ true) (number_after 0 (front ++ back))
+narrow_pair_read front back value o digits e known =
+    let P : Bool → Type 0 = λ x. SomeIff o (x ≡ true) (number_after value back) in
+    let Q : ℕ → Type 0 = λ k. SomeIff o (all_ascii_digits (front ++ back) ≡ true) k in
+    subst Q (ap (λ n. number_after n back) e ∙ sym (number_after-append 0 front back)) (subst P (digits_behind front back digits) known)

@@ -9,7 +9,7 @@ use Rattle.std.specs.Str.{all_ascii_digits}
 use Rattle.std.specs.Char.{is_ascii_digit}
 use Rattle.ooc_decimal.specs.Numeral.{number_after, rounded}
 use Rattle.ooc_decimal.proofs.Point.{unit_above}
-use Rattle.ooc_decimal.proofs.NumberAfter.{number_after-append, and_true, digits_in_both}
+use Rattle.ooc_decimal.proofs.NumberAfter.{number_after-append, and_true, digits_in_both, is_digit}
 
 -- no digit is dropped
 pub exact : (n places scale : ℕ) → places ≤ scale → n * 10 ^ (scale - places) ≡ rounded n places scale
@@ -37,9 +37,6 @@ up v rest k q some half below =
     let over : 2 * rest * k - k * q < 2 * (k * q) = omega arith in
     ap (λ x. x / (2 * (k * q))) (omega arith) ∙ div-mul-add (v + 1) (2 * (k * q)) (2 * rest * k - k * q) over
 
-is_digit : (byte : ℕ) → is_ascii_digit byte ≡ true → (48 ≤ byte) × (byte < 58)
-is_digit byte e = (grind (arith, nat_tests), grind (arith, nat_tests))
-
 shift : (n digit power rest : ℕ) → (n * 10 + digit) * power + rest ≡ n * (power * 10) + (digit * power + rest)
 shift n digit power rest = omega arith
 
@@ -58,7 +55,7 @@ leading digit digits =
     let bare : 0 * 10 + (digit - 48) ≡ digit - 48 = omega arith in
     ap (λ n. number_after n digits) bare ∙ shifted (digit - 48) digits
 
-below_power : (digits : List ℕ) → all_ascii_digits digits ≡ true → number_after 0 digits < 10 ^ length digits
+pub below_power : (digits : List ℕ) → all_ascii_digits digits ≡ true → number_after 0 digits < 10 ^ length digits
 below_power [] e = omega arith
 below_power (digit ∷ digits) e =
     let parts = and_true (is_ascii_digit digit) (all_ascii_digits digits) e in
@@ -99,8 +96,8 @@ rounds_up kept (digit ∷ digits) scale some are high =
 pub at_least : (kept dropped : List ℕ) (scale : ℕ) → 0 < length dropped → all_ascii_digits dropped ≡ true → number_after 0 kept ≤ rounded (number_after 0 (kept ++ dropped)) (scale + length dropped) scale
 at_least kept dropped scale some digits =
     elim (ltb (get_or dropped 0 0) 53) as (λ t. ltb (get_or dropped 0 0) 53 ≡ t → number_after 0 kept ≤ rounded (number_after 0 (kept ++ dropped)) (scale + length dropped) scale) [
-    | true ↦ λ e. omega (arith, rounds_down kept dropped scale some digits (ltb-true (get_or dropped 0 0) 53 e))
-    | false ↦ λ e. omega (arith, rounds_up kept dropped scale some digits (ltb-false (get_or dropped 0 0) 53 e))
+      | true ↦ λ e. omega (arith, rounds_down kept dropped scale some digits (ltb-true (get_or dropped 0 0) 53 e))
+      | false ↦ λ e. omega (arith, rounds_up kept dropped scale some digits (ltb-false (get_or dropped 0 0) 53 e))
     ] refl
 
 pub not_rounded : (kept dropped : List ℕ) (scale : ℕ) → 0 < length dropped → ((all_ascii_digits kept ≡ true) × (number_after 0 kept < 2 ^ 128) → ⊥) → (all_ascii_digits (kept ++ dropped) ≡ true) × (rounded (number_after 0 (kept ++ dropped)) (scale + length dropped) scale < 2 ^ 128) → ⊥

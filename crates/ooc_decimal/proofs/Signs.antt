@@ -27,7 +27,6 @@ abs-signed false n = refl
 abs-signed true zero = refl
 abs-signed true (suc n) = refl
 
-
 pub times_signed : (negative : Bool) (m k : ℕ) → signed negative (m * k) ≡ signed negative m *ℤ pos k
 times_signed false m k = refl
 times_signed true zero k = let none : 0 * k ≡ 0 = omega arith in rw none refl
@@ -46,17 +45,17 @@ pub over_sum : (x y k : ℤ) → (x +ℤ y) *ℤ k ≡ x *ℤ k +ℤ y *ℤ k
 over_sum x y k = ℤ_ind (λ z. (x +ℤ z) *ℤ k ≡ x *ℤ k +ℤ z *ℤ k)
     (ap (λ z. z *ℤ k) (+ℤ_idr x) ∙ sym (ap (λ z. x *ℤ k +ℤ z) (zero-*ℤ k) ∙ +ℤ_idr (x *ℤ k)))
     (λ n known.
-        ap (λ z. z *ℤ k) (sym (+ℤ_assoc x (pos n) (pos 1)) ∙ +ℤ_one (x +ℤ pos n))
-        ∙ suc_ℤ-*ℤ (x +ℤ pos n) k
-        ∙ ap (λ z. z +ℤ k) known
-        ∙ +ℤ_assoc (x *ℤ k) (pos n *ℤ k) k
-        ∙ ap (λ z. x *ℤ k +ℤ z) (sym (suc_ℤ-*ℤ (pos n) k) ∙ ap (λ z. z *ℤ k) (sym (+ℤ_one (pos n)))))
+    ap (λ z. z *ℤ k) (sym (+ℤ_assoc x (pos n) (pos 1)) ∙ +ℤ_one (x +ℤ pos n))
+    ∙ suc_ℤ-*ℤ (x +ℤ pos n) k
+    ∙ ap (λ z. z +ℤ k) known
+    ∙ +ℤ_assoc (x *ℤ k) (pos n *ℤ k) k
+    ∙ ap (λ z. x *ℤ k +ℤ z) (sym (suc_ℤ-*ℤ (pos n) k) ∙ ap (λ z. z *ℤ k) (sym (+ℤ_one (pos n)))))
     (λ n known.
-        ap (λ z. z *ℤ k) (sym (+ℤ_assoc x (neg_ℤ (pos n)) (neg_ℤ (pos 1))) ∙ -ℤ_one (x +ℤ neg_ℤ (pos n)))
-        ∙ pred_ℤ-*ℤ (x +ℤ neg_ℤ (pos n)) k
-        ∙ ap (λ z. z -ℤ k) known
-        ∙ +ℤ_assoc (x *ℤ k) (neg_ℤ (pos n) *ℤ k) (neg_ℤ k)
-        ∙ ap (λ z. x *ℤ k +ℤ z) (sym (pred_ℤ-*ℤ (neg_ℤ (pos n)) k) ∙ ap (λ z. z *ℤ k) (sym (-ℤ_one (neg_ℤ (pos n))))))
+    ap (λ z. z *ℤ k) (sym (+ℤ_assoc x (neg_ℤ (pos n)) (neg_ℤ (pos 1))) ∙ -ℤ_one (x +ℤ neg_ℤ (pos n)))
+    ∙ pred_ℤ-*ℤ (x +ℤ neg_ℤ (pos n)) k
+    ∙ ap (λ z. z -ℤ k) known
+    ∙ +ℤ_assoc (x *ℤ k) (neg_ℤ (pos n) *ℤ k) (neg_ℤ k)
+    ∙ ap (λ z. x *ℤ k +ℤ z) (sym (pred_ℤ-*ℤ (neg_ℤ (pos n)) k) ∙ ap (λ z. z *ℤ k) (sym (-ℤ_one (neg_ℤ (pos n))))))
     y
 
 -- a small number brings no large one near

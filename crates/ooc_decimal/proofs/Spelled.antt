@@ -42,9 +42,9 @@ answers_none kind text body numeral whole part negative scale numeric e1 e2 e3 e
     let number = magnitude whole part scale in
     let is = spelled_is kind text body numeral whole part negative scale e1 e2 e3 e4 e5 e6 in
     subst P (sym is) (elim (is_numeral (whole ++ part)) as (λ t. is_numeral (whole ++ part) ≡ t → P (cond t (Some (signed negative number)) None)) [
-    | true ↦ λ e inside. elim (ltb number (2 ^ 128)) as (λ t. ltb number (2 ^ 128) ≡ t → ⊥) [
-      | true ↦ λ f. none (e, ltb-true number (2 ^ 128) f)
-      | false ↦ λ f. signed_too_large kind numeric negative number (omega (arith, ltb-false number (2 ^ 128) f)) inside
+      | true ↦ λ e inside. elim (ltb number (2 ^ 128)) as (λ t. ltb number (2 ^ 128) ≡ t → ⊥) [
+        | true ↦ λ f. none (e, ltb-true number (2 ^ 128) f)
+        | false ↦ λ f. signed_too_large kind numeric negative number (omega (arith, ltb-false number (2 ^ 128) f)) inside
       ] refl
-    | false ↦ λ e. refl
+      | false ↦ λ e. refl
     ] refl)

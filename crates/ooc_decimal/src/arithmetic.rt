@@ -38,7 +38,13 @@ pub fn add(a: i128, a_scale: u8, b: i128, b_scale: u8, kind: SqlType) -> Option<
     if a_scale == to && b_scale == to {
         return add_digits(a, b, kind);
     }
-    scaled_sum(from_digits(a), to - a_scale, from_digits(b), to - b_scale, kind)
+    scaled_sum(
+        from_digits(a),
+        to - a_scale,
+        from_digits(b),
+        to - b_scale,
+        kind,
+    )
 }
 
 /// The difference of `a / 10^a_scale` and `b / 10^b_scale` as digits of the type.
@@ -52,7 +58,13 @@ pub fn sub(a: i128, a_scale: u8, b: i128, b_scale: u8, kind: SqlType) -> Option<
     if a_scale == to && b_scale == to {
         return sub_digits(a, b, kind);
     }
-    scaled_sum(from_digits(a), to - a_scale, opposite(from_digits(b)), to - b_scale, kind)
+    scaled_sum(
+        from_digits(a),
+        to - a_scale,
+        opposite(from_digits(b)),
+        to - b_scale,
+        kind,
+    )
 }
 
 /// The product of `a / 10^a_scale` and `b / 10^b_scale` as digits of the type, whose scale is the sum of theirs.

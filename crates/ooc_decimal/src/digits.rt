@@ -1,7 +1,8 @@
 //! Reading digits.
-ghost use Rattle.std.specs.Prelude.{◌≡◌, ◌+◌, ◌*◌, ◌<◌, ◌^◌, [], ◌∷◌};
+ghost use Rattle.std.specs.Prelude.{◌≡◌, ◌-◌, ◌*◌, ◌<◌, ◌≤◌, ◌^◌, [], ◌∷◌, true, length};
 ghost use Rattle.std.specs.Option.{SomeIff};
 ghost use Rattle.std.specs.Str.{all_ascii_digits};
+ghost use Rattle.ooc_decimal.specs.Numeral.{number_after};
 ghost use Rattle.ooc_decimal.specs.Digits.{ReadsOn};
 
 use crate::powers::power_of_ten;
@@ -14,6 +15,22 @@ fn next_digit(value: u128, byte: u8) -> Option<u128>
         return None;
     }
     value.checked_mul(10)?.checked_add(u128::from(byte - b'0'))
+}
+
+/// The digits of `start` and then these, 18 in all at most; none where a byte is no digit.
+pub fn read_narrow(digits: &[u8], start: u64) -> Option<u64>
+    requires few { length digits.now ≤ 18 }
+    requires small { start < 10 ^ (18 - length digits.now) }
+    ensures { SomeIff result (all_ascii_digits digits.now ≡ true) (number_after start digits.now) }
+{
+    let mut value = start;
+    for byte in digits {
+        if !byte.is_ascii_digit() {
+            return None;
+        }
+        value = value * 10 + u64::from(byte - b'0');
+    }
+    Some(value)
 }
 
 /// The digits of `start` and then these; none where a byte is no digit, or the number needs more than 128 bits.
@@ -46,6 +63,9 @@ pub fn are_digits(bytes: &[u8]) -> bool
 pub fn times_power(number: u128, places: u8) -> Option<u128>
     ensures { SomeIff result (number * 10 ^ places < 2 ^ 128) (number * 10 ^ places) }
 {
+    if number < 1 << 64 && places < 20 {
+        return Some(number * power_of_ten(places));
+    }
     if number == 0 {
         return Some(0);
     }

@@ -12,5 +12,8 @@ mod signed;
 mod trim;
 
 pub use arithmetic::{add, mul, negate, quotient, remainder, sub};
-pub use read::read_number;
 pub use print::{number_length, print_number};
+pub use read::read_number;
+
+#[cfg(test)]
+mod tests;

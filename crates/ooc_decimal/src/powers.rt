@@ -1,5 +1,5 @@
 //! Powers of ten.
-ghost use Rattle.std.specs.Prelude.{◌≡◌, ◌≤◌, ◌^◌};
+ghost use Rattle.std.specs.Prelude.{◌≡◌, ◌<◌, ◌≤◌, ◌^◌};
 
 const POWERS: [u128; 39] = [
     1,
@@ -46,7 +46,17 @@ const POWERS: [u128; 39] = [
 /// Ten to the power of `places`.
 pub fn power_of_ten(places: u8) -> u128
     requires { places ≤ 38 }
-    ensures { result ≡ 10 ^ places }
+    ensures value { result ≡ 10 ^ places }
+    ensures some { 0 < result }
 {
     POWERS[places as usize]
+}
+
+/// Ten to the power of `places`, where a `u64` holds it.
+pub fn narrow_power_of_ten(places: u8) -> u64
+    requires { places ≤ 19 }
+    ensures value { result ≡ 10 ^ places }
+    ensures some { 0 < result }
+{
+    power_of_ten(places) as u64
 }

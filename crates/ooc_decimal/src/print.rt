@@ -4,6 +4,7 @@ ghost use Rattle.ooc_decimal.specs.Printed.{places, magnitude_text, number_text}
 ghost use Rattle.ooc_decimal.specs.Kept.{KeepsFront};
 
 use crate::places::{digit_count, push_places};
+use crate::powers::{narrow_power_of_ten, power_of_ten};
 use ooc_types::OutOfMemory;
 
 // The integer part of `n` hundredths, thousandths and so on, and what is behind the point.
@@ -17,7 +18,7 @@ fn split_at_point(n: u128, scale: u8) -> (u128, u128)
     if n < 1 << 64 {
         return split_narrow(n as u64, scale);
     }
-    let unit = 10_u128.pow(u32::from(scale));
+    let unit = power_of_ten(scale);
     (n / unit, n % unit)
 }
 
@@ -28,7 +29,7 @@ fn split_narrow(n: u64, scale: u8) -> (u128, u128)
     if scale > 19 {
         return (0, u128::from(n));
     }
-    let unit = 10_u64.pow(u32::from(scale));
+    let unit = narrow_power_of_ten(scale);
     (u128::from(n / unit), u128::from(n % unit))
 }
 

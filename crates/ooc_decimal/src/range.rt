@@ -13,7 +13,8 @@ pub fn in_range(digits: i128, kind: SqlType) -> Option<i128>
 {
     let fits = match kind {
         SqlType::Integer => -2_147_483_648 <= digits && digits <= 2_147_483_647,
-        SqlType::BigInt => -9_223_372_036_854_775_808 <= digits && digits <= 9_223_372_036_854_775_807,
+        SqlType::BigInt => -9_223_372_036_854_775_808 <= digits
+            && digits <= 9_223_372_036_854_775_807,
         SqlType::HugeInt => digits != i128::MIN,
         SqlType::Decimal { width, .. } => digits.unsigned_abs() < power_of_ten(width),
         SqlType::Boolean | SqlType::Varchar => false,
@@ -27,7 +28,11 @@ pub fn scale(kind: SqlType) -> u8
 {
     match kind {
         SqlType::Decimal { scale, .. } => scale,
-        SqlType::Boolean | SqlType::Integer | SqlType::BigInt | SqlType::HugeInt | SqlType::Varchar => 0,
+        SqlType::Boolean
+        | SqlType::Integer
+        | SqlType::BigInt
+        | SqlType::HugeInt
+        | SqlType::Varchar => 0,
     }
 }
 

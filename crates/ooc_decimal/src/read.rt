@@ -1,18 +1,34 @@
 //! Reading a number.
-ghost use Rattle.std.specs.Prelude.{◌≡◌, ◌≤◌, ◌<◌, ◌^◌, ◌++◌, true, MatchOption, None, length};
+ghost use Rattle.std.specs.Prelude.{◌≡◌, ◌≤◌, ◌<◌, ◌^◌, ◌++◌, ◌+◌, true, MatchOption, None, length};
+ghost use Rattle.std.specs.Option.{SomeIff};
+ghost use Rattle.std.specs.Str.{all_ascii_digits};
 ghost use Rattle.ooc_decimal.specs.Exact.{IsExact};
 ghost use Rattle.ooc_decimal.specs.Numeric.{IsNumeric, signed, scale_of};
-ghost use Rattle.ooc_decimal.specs.Numeral.{spelled, whole_of, part_of};
+ghost use Rattle.ooc_decimal.specs.Numeral.{number_after, spelled, whole_of, part_of};
 ghost use Rattle.ooc_decimal.specs.Digits.{ReadsOn, ReadsScaled, ReadsRounded, ReadsMagnitude};
 
-use crate::digits::{are_digits, read_digits, times_power};
+use crate::digits::{are_digits, read_digits, read_narrow, times_power};
 use crate::range::{scale, within};
 use crate::trim::{split_sign, trim};
 use ooc_types::SqlType;
 
+fn read_narrow_pair(front: &[u8], back: &[u8]) -> Option<u64>
+    requires { length front.now + length back.now ≤ 18 }
+    ensures { SomeIff result (all_ascii_digits (front.now ++ back.now) ≡ true) (number_after 0 (front.now ++ back.now)) }
+{
+    match read_narrow(front, 0) {
+        Some(value) => read_narrow(back, value),
+        None => None,
+    }
+}
+
+// The number that the digits of both spell together.
 fn read_pair(front: &[u8], back: &[u8]) -> Option<u128>
     ensures { ReadsOn 0 (front.now ++ back.now) result }
 {
+    if front.len() <= 18 && back.len() <= 18 - front.len() {
+        return read_narrow_pair(front, back).map(u128::from);
+    }
     match read_digits(front, 0) {
         Some(value) => read_digits(back, value),
         None => None,

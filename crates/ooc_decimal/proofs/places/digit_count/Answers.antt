@@ -8,7 +8,7 @@ returns-clause-digits c =
     let last = c.if-n-lt10.last in
     let n = c.args.n in
     elim c.if-n-lt10.branch [
-    | then-n-lt10 w ↦ counted last n c.requires (λ some. omega arith) (omega (arith, ap (λ k. 10 ^ k) w.last-is))
-    | else-n-lt10+then-n w ↦ counted last n c.requires (λ some. omega (arith, ap (λ k. 10 ^ k) w.last-is)) (omega (arith, ap (λ k. 10 ^ k) w.last-is))
-    | else-n-lt10+else-n w ↦ counted last n c.requires (λ some. omega (arith, ap (λ k. 10 ^ k) w.last-is)) (omega (arith, ap (λ k. 10 ^ k) w.last-is))
+      | then-n-lt10 w ↦ counted last n c.requires (λ some. omega arith) (omega (arith, ap (λ k. 10 ^ k) w.last-is))
+      | else-n-lt10+then-n w ↦ counted last n c.requires (λ some. omega (arith, ap (λ k. 10 ^ k) w.last-is)) (omega (arith, ap (λ k. 10 ^ k) w.last-is))
+      | else-n-lt10+else-n w ↦ counted last n c.requires (λ some. omega (arith, ap (λ k. 10 ^ k) w.last-is)) (omega (arith, ap (λ k. 10 ^ k) w.last-is))
     ]

@@ -7,5 +7,5 @@ loop-at-preserved c =
     let l = c.loop-at in
     record {
       within = omega (arith, length-set l.part (l.at - 1) (48 + l.rest % 10));
-      digits = one_more l.part l.at l.rest _ c.loop-at-test.true l.invariant.within l.invariant.digits
+      digits = one_more l.part l.at l.rest _ c.loop-at-test.true l.invariant.within l.invariant.digits;
     }

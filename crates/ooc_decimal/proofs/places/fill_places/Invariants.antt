@@ -6,7 +6,7 @@ use Rattle.ooc_decimal.proofs.places.fill_places.Given as goal
 abbrev pub invariant-loop-at : goal.invariant-loop-at
 invariant-loop-at l = record {
   within : l.at ≤ length l.part;
-  digits : places l.at l.rest ++ drop l.at l.part ≡ places (length l.fn.part) l.n
+  digits : places l.at l.rest ++ drop l.at l.part ≡ places (length l.fn.part) l.n;
 }
 
 abbrev pub decreases-loop-at : goal.decreases-loop-at
