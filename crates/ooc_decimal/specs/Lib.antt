@@ -1,0 +1,6 @@
+pub mod Printed
+pub mod Kept
+pub mod Numeric
+pub mod Exact
+pub mod Numeral
+pub mod Digits

@@ -1,0 +1,19 @@
+//! Exact decimal numbers: arithmetic, reading and printing.
+#![tactic(auto)]
+
+mod arithmetic;
+mod digits;
+mod places;
+mod powers;
+mod print;
+mod range;
+mod read;
+mod signed;
+mod trim;
+
+pub use arithmetic::{add, mul, negate, quotient, remainder, sub};
+pub use print::{number_length, print_number};
+pub use read::read_number;
+
+#[cfg(test)]
+mod tests;

@@ -1,0 +1,90 @@
+//! One field of a line.
+ghost use Rattle.std.specs.Prelude.{◌≡◌, ◌++◌, OnOk, OnErr};
+ghost use Rattle.std.specs.List.{list_any};
+ghost use Rattle.result_print.specs.Printed as spec;
+ghost use Rattle.result_print.specs.Printed.{doubled, quoted, field_text, value_text};
+ghost use Rattle.ooc_decimal.specs.Kept.{KeepsFront};
+
+use ooc_decimal::print_number;
+use ooc_types::{OutOfMemory, Value};
+
+fn is_special(byte: u8) -> bool
+    ensures { result ≡ spec.is_special byte }
+{
+    byte == b',' || byte == b'"' || byte == b'\r' || byte == b'\n'
+}
+
+fn has_special(bytes: &[u8]) -> bool
+    ensures { result ≡ list_any spec.is_special bytes.now }
+{
+    for byte in bytes {
+        if is_special(*byte) {
+            return true;
+        }
+    }
+    false
+}
+
+/// Whether a text stands in quotes.
+pub fn needs_quotes(bytes: &[u8]) -> bool
+    ensures { result ≡ spec.needs_quotes bytes.now }
+{
+    bytes.is_empty() || bytes == b"NULL".as_slice() || has_special(bytes)
+}
+
+fn push_doubled(byte: u8, into: &mut Vec<u8>) -> Result<(), OutOfMemory>
+    ensures ok { OnOk result (into.new.items ≡ into.old.items ++ doubled byte) }
+    ensures err { OnErr result (KeepsFront into.old.items into.new.items) }
+{
+    if byte == b'"' {
+        into.push(b'"')?;
+    }
+    into.push(byte)?;
+    Ok(())
+}
+
+fn push_quoted(bytes: &[u8], into: &mut Vec<u8>) -> Result<(), OutOfMemory>
+    ensures ok { OnOk result (into.new.items ≡ into.old.items ++ quoted bytes.now) }
+    ensures err { OnErr result (KeepsFront into.old.items into.new.items) }
+{
+    into.push(b'"')?;
+    for byte in bytes {
+        push_doubled(*byte, into)?;
+    }
+    into.push(b'"')?;
+    Ok(())
+}
+
+/// The text or name as a field. A failed call leaves a part of it at most.
+pub fn push_field(bytes: &[u8], into: &mut Vec<u8>) -> Result<(), OutOfMemory>
+    ensures ok { OnOk result (into.new.items ≡ into.old.items ++ field_text bytes.now) }
+    ensures err { OnErr result (KeepsFront into.old.items into.new.items) }
+{
+    if needs_quotes(bytes) {
+        return push_quoted(bytes, into);
+    }
+    into.extend_from_slice(bytes)?;
+    Ok(())
+}
+
+/// The value as a field. A failed call leaves a part of it at most.
+pub fn push_value(value: &Value, into: &mut Vec<u8>) -> Result<(), OutOfMemory>
+    ensures ok { OnOk result (into.new.items ≡ into.old.items ++ value_text value.now) }
+    ensures err { OnErr result (KeepsFront into.old.items into.new.items) }
+{
+    match value {
+        Value::Number { digits, scale } => print_number(*digits, *scale, into),
+        Value::Text(text) => push_field(text.as_bytes(), into),
+        Value::Null => push_word(b"NULL", into),
+        Value::Truth(true) => push_word(b"true", into),
+        Value::Truth(false) => push_word(b"false", into),
+    }
+}
+
+fn push_word(word: &[u8], into: &mut Vec<u8>) -> Result<(), OutOfMemory>
+    ensures ok { OnOk result (into.new.items ≡ into.old.items ++ word.now) }
+    ensures err { OnErr result (KeepsFront into.old.items into.new.items) }
+{
+    into.extend_from_slice(word)?;
+    Ok(())
+}

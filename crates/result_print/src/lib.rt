@@ -1,0 +1,9 @@
+//! The bytes that a result is printed as.
+#![tactic(auto)]
+
+mod field;
+mod length;
+mod line;
+
+pub use length::row_length;
+pub use line::{print_header, print_row};
