@@ -3,7 +3,7 @@ use Rattle.std.specs.Prelude.{ℕ, ◌≡◌, List, []}
 use Rattle.ooc_bags.specs.Bags.{SameBag}
 use Rattle.ooc_types.specs.declared.schema.Column.{Column}
 use Rattle.ooc_types.specs.declared.value.Value.{Value}
-use Rattle.result_print.specs.Print.{block_text}
+use Rattle.result_print.specs.Printed.{block_text}
 
 pub data Block : Type 0 where
   -- these bytes

@@ -5,6 +5,7 @@ pub mod Catalog
 pub mod Block
 pub mod ScriptText
 pub mod FormReading
+pub mod Stored
 pub mod Script
 pub mod FileRows
 pub mod Meaning

@@ -1,5 +1,5 @@
 -- What one statement does over a catalog.
-use Rattle.std.specs.Prelude.{ℕ, ℤ, Bool, false, pos, ◌+◌, ◌&&◌, int_lt, int_le, if◌then◌else◌, List, [], ◌∷◌, ◌++◌, map, filter, slice_index_or, slice_range, Option, None, Some}
+use Rattle.std.specs.Prelude.{ℕ, ℤ, Bool, false, pos, ◌+◌, ◌&&◌, int_lt, int_le, if◌then◌else◌, List, [], ◌∷◌, ◌++◌, map, filter, length, slice_index_or, slice_range, Option, None, Some}
 use Rattle.std.specs.FinMap.{get}
 use Rattle.std.specs.Str.{bytes_eq}
 use Rattle.ooc_io.specs.Held.{Held}
@@ -21,6 +21,7 @@ use Rattle.ooc_engine.specs.Status.{refused}
 use Rattle.ooc_engine.specs.Catalog.{Catalog, Table, table_at, with_table, more_rows}
 use Rattle.ooc_engine.specs.Block.{Block, no_block, InAnyOrder}
 use Rattle.ooc_engine.specs.FileRows.{file_rows}
+use Rattle.ooc_engine.specs.ScriptText.{is_count, is_table, have_columns, has_integer}
 
 pub data Outcome : Type 0 where
   -- it leaves this catalog, and prints this block
@@ -31,9 +32,10 @@ pub data Outcome : Type 0 where
 abbrev pub stops_at : ℕ → Place → RefusalKind → Outcome
 stops_at number place kind = Stops (refused number place kind ∷ [])
 
--- a new table has no rows
+-- A new table has no rows. A name that a table has, and columns that aren't those of the first form, are not built yet.
 abbrev pub created : ℕ → Catalog → List ℕ → List Column → Option Table → Outcome
-created number catalog name columns None = Gives (with_table catalog name (record { schema = columns; rows = [] })) no_block
+created number catalog name columns None =
+    if is_table columns then Gives (with_table catalog name (record { schema = columns; rows = [] })) no_block else stops_at number Whole NotBuilt
 created number catalog name columns (Some table) = stops_at number Whole NotBuilt
 
 -- the rows come behind those that the table has
@@ -77,10 +79,18 @@ abbrev pub picked_columns : List Column → List (List ℕ) → List Column
 picked_columns schema [] = []
 picked_columns schema (name ∷ names) = slice_range schema (place_of schema name) (place_of schema name + 1) ++ picked_columns schema names
 
+-- names of the table's columns, and an INTEGER that is compared
+abbrev pub is_asked : List Column → List (List ℕ) → Filter → Bool
+is_asked schema names test = (is_count (length names) && have_columns schema names) && has_integer schema test.column
+
+-- the rows that a filter keeps, each with the columns that are named
+abbrev pub picked_rows : Table → List (List ℕ) → Filter → List (List Value)
+picked_rows table names test = map (picked_row table.schema names) (kept_rows table test)
+
 abbrev pub selected : ℕ → Catalog → List (List ℕ) → Filter → Option Table → Outcome
 selected number catalog names test None = stops_at number Whole NotBuilt
 selected number catalog names test (Some table) =
-    Gives catalog (InAnyOrder (picked_columns table.schema names) (map (picked_row table.schema names) (kept_rows table test)))
+    if is_asked table.schema names test then Gives catalog (InAnyOrder (picked_columns table.schema names) (picked_rows table names test)) else stops_at number Whole NotBuilt
 
 -- What statement number `number` does over a catalog. The settings bound no statement of the first form.
 unfoldable pub outcome : Settings → Held → ℕ → Catalog → Statement → Outcome

@@ -140,6 +140,10 @@ abbrev pub is_formed : Form → Bool
 is_formed f = ((is_name f.table && is_count (length f.columns)) && (are_columns f.columns && is_file_name f.file))
     && (((is_count (length f.names) && have_columns f.columns f.names) && has_integer f.columns f.column) && is_number f.digits)
 
+-- 1 to 64 columns of the form's types
+abbrev pub is_table : List Column → Bool
+is_table columns = is_count (length columns) && list_all is_plain columns
+
 abbrev pub statements_of : Form → List Statement
 statements_of f = Create f.table f.columns ∷ Copy f.table f.file
     ∷ Select f.table f.names (record { column = f.column; sign = f.sign; number = number_of f.digits }) ∷ []

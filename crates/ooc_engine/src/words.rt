@@ -4,7 +4,7 @@ ghost use Rattle.std.specs.List.{slice_split};
 ghost use Rattle.ooc_engine.specs.ScriptText.{is_blank, is_sign, parted, words_in};
 
 use ooc_types::{OutOfMemory, Text};
-use std::alloc::Global;
+use std::alloc::{AllocError, Global};
 
 fn is_blank(byte: u8) -> bool
     ensures { result ≡ is_blank byte }
@@ -19,16 +19,16 @@ fn is_sign(byte: u8) -> bool
 }
 
 /// What stands between the quotes of a text.
-pub fn parts_at_quotes<'a>(alloc: Global, text: &'a [u8]) -> Result<Vec<&'a [u8]>, OutOfMemory>
+pub fn parts_at_quotes<'a>(alloc: Global, text: &'a [u8]) -> Result<Vec<&'a [u8]>, AllocError>
     ensures { IfOk result (λ parts. map (λ part. part.now) parts.items ≡ slice_split (λ byte. byte == 39) text.now) }
 {
-    Ok(text.split(|byte| *byte == b'\'').collect(alloc)?)
+    text.split(|byte| *byte == b'\'').collect(alloc)
 }
 
-fn parts_at_blanks<'a>(alloc: Global, text: &'a [u8]) -> Result<Vec<&'a [u8]>, OutOfMemory>
+fn parts_at_blanks<'a>(alloc: Global, text: &'a [u8]) -> Result<Vec<&'a [u8]>, AllocError>
     ensures { IfOk result (λ parts. map (λ part. part.now) parts.items ≡ slice_split is_blank text.now) }
 {
-    Ok(text.split(|byte| is_blank(*byte)).collect(alloc)?)
+    text.split(|byte| is_blank(*byte)).collect(alloc)
 }
 
 // The text with a blank on both sides of each sign.
