@@ -4,3 +4,6 @@ pub mod SoFar
 pub mod CountedLemmas
 pub mod Opened
 pub mod Top
+pub mod DigitLemmas
+pub mod FormLemmas
+pub mod FormFound
