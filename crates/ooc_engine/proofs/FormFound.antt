@@ -1,5 +1,5 @@
 -- A script's bytes are read as the form that they spell, and as no other.
-use Rattle.std.proofs.Common.{◌≡◌, ℕ, ◌<◌, ◌≤◌, arith, ◌⊎◌, inl, inr, ⊎_elim, Bool, true, false, ◌&&◌, List, [], ◌∷◌, ◌++◌, length, map, codes, Option, Some, None, refl, sym, ap, ◌∙◌, subst}
+use Rattle.std.proofs.Common.{◌≡◌, ℕ, ◌<◌, ◌≤◌, arith, ◌⊎◌, inl, inr, ⊎_elim, Bool, true, false, ◌&&◌, List, [], ◌∷◌, ◌++◌, length, get_or, map, codes, Option, Some, None, Result, Ok, Err, refl, sym, ap, ◌∙◌, subst}
 use Rattle.std.specs.Prelude.{◌==◌, nat_le}
 use Rattle.std.specs.List.{slice_split}
 use Rattle.std.proofs.lemmas.Option.{none-some, same_Some}
@@ -9,7 +9,10 @@ use Rattle.ooc_engine.specs.declared.form.Form.{Form}
 use Rattle.ooc_engine.specs.declared.statement.Sign.{Sign}
 use Rattle.ooc_engine.specs.declared.statement.Statement.{Statement}
 use Rattle.ooc_engine.specs.ScriptText.{joined, column_words, name_words, sign_text, words_in, front_words, back_words, are_columns, is_formed, statements_of, most, IsSpelled, IsScript}
-use Rattle.ooc_engine.specs.FormReading.{Words, behind, first, nothing, sign_of, columns_of, names_of, front_of, filter_of, back_of, form_of_parts, form_of}
+use Rattle.ooc_engine.specs.declared.form.FormStop.{FormStop}
+use Rattle.ooc_engine.specs.declared.form.FormStop.TheVariants as stop
+use Rattle.ooc_engine.specs.Ends.{IsParsed}
+use Rattle.ooc_engine.specs.FormReading.{Words, behind, first, nothing, sign_of, columns_of, names_of, front_of, filter_of, back_of, form_of_parts, form_of, Reads}
 use Rattle.ooc_engine.proofs.FormLemmas.{then_some, behind_is, behind_same, first_is, nothing_is, sign_is, sign_same, columns_are, names_are, columns_same, names_same, AreColumns, AreNames}
 
 pub front_is : (words : Words) (table : List ℕ) (columns : List Column) → front_of words ≡ Some (table, columns)
@@ -179,3 +182,24 @@ pub one_script : (bytes : List ℕ) (a b : List Statement) → IsScript bytes a 
 one_script bytes a b s t =
     let same : s.form ≡ t.form = same_Some s.form t.form (sym (form_same bytes s.form s.spelled s.formed) ∙ form_same bytes t.form t.spelled t.formed) in
     s.are ∙ ap statements_of same ∙ sym t.are
+
+-- what stops the reading stops the parse
+pub unread_parsed : (bytes : List ℕ) (e : FormStop) → Reads (form_of bytes) (Err e) → IsParsed bytes (Err e)
+unread_parsed bytes stop.NotBuilt none = no_form bytes none
+unread_parsed bytes stop.OutOfMemory memory = tt
+
+pub other_parts : (parts : List (List ℕ)) → (length parts ≡ 3 → ⊥) → form_of_parts parts ≡ None
+unfolding form_of_parts
+other_parts [] h = refl
+other_parts (a ∷ []) h = refl
+other_parts (a ∷ b ∷ []) h = refl
+other_parts (a ∷ b ∷ c ∷ []) h = absurd (h refl)
+other_parts (a ∷ b ∷ c ∷ d ∷ parts) h = refl
+
+-- a list of three, by its items
+pub three_items : {A : Type 0} (xs : List A) (a b c : A) → length xs ≡ 3 → a ≡ get_or xs 0 a → b ≡ get_or xs 1 b → c ≡ get_or xs 2 c → xs ≡ a ∷ b ∷ c ∷ []
+three_items [] a b c n x y z = absurd (omega arith)
+three_items (p ∷ []) a b c n x y z = absurd (omega arith)
+three_items (p ∷ q ∷ []) a b c n x y z = absurd (omega arith)
+three_items (p ∷ q ∷ r ∷ []) a b c n x y z = ap (λ i. i ∷ q ∷ r ∷ []) (sym x) ∙ ap (λ i. a ∷ i ∷ r ∷ []) (sym y) ∙ ap (λ i. a ∷ b ∷ i ∷ []) (sym z)
+three_items (p ∷ q ∷ r ∷ s ∷ xs) a b c n x y z = absurd (omega arith)

@@ -7,3 +7,4 @@ pub mod Top
 pub mod DigitLemmas
 pub mod FormLemmas
 pub mod FormFound
+pub mod NameLemmas

@@ -5,6 +5,8 @@ use Rattle.std.specs.FinMap.{get}
 use Rattle.ooc_io.specs.Held.{Held}
 use Rattle.ooc_types.specs.declared.refusal.RefusalKind.{RefusalKind}
 use Rattle.ooc_types.specs.declared.refusal.RefusalKind.TheVariants.{NotBuilt}
+use Rattle.ooc_engine.specs.declared.form.FormStop.{FormStop}
+use Rattle.ooc_engine.specs.declared.form.FormStop.TheVariants as stop
 use Rattle.ooc_engine.specs.declared.settings.Settings.{Settings}
 use Rattle.ooc_engine.specs.declared.statement.Statement.{Statement}
 use Rattle.ooc_engine.specs.declared.status.Status.{Status}
@@ -16,7 +18,7 @@ use Rattle.ooc_engine.specs.Script.{Script, script_of, IsTree, IsOpened, IsOpene
 use Rattle.ooc_engine.specs.ScriptText.{IsScript, most}
 use Rattle.ooc_io.specs.Opens.{Opens}
 use Rattle.ooc_engine.specs.Says.{MayCut}
-use Rattle.ooc_engine.specs.Ends.{IsSettings, IsScriptRead, IsParsed, IsReadUpTo}
+use Rattle.ooc_engine.specs.Ends.{IsSettings, IsScriptRead, IsReadUpTo, IsParsed}
 
 module _ (words : List (List ℕ)) (held : Held) where
   -- wrong words, or none of memory for the name
@@ -42,9 +44,11 @@ module _ (words : List (List ℕ)) (held : Held) where
       parsed_opened statements is = with_bytes (Ok statements) is
 
       -- they aren't
-      pub unparsed_opened : (status : Status) → IsParsed bytes (Err status) → IsOpened words held (Err status) ⊎ MayCut status
-      unparsed_opened status (inl (is, refused)) = inl (subst (λ (x : Status). IsOpened words held (Err x)) (sym refused) (with_bytes (Err NotBuilt) is))
-      unparsed_opened status (inr memory) = inr (subst MayCut (sym memory) tt)
+      pub unparsed_opened : (seen : List ℕ) (e : FormStop) → seen ≡ bytes → e ≡ stop.NotBuilt → IsParsed seen (Err e) → IsOpened words held (Err (script_refused NotBuilt)) ⊎ MayCut (script_refused NotBuilt)
+      unparsed_opened seen e same is parsed =
+          let none : (statements : List Statement) → IsScript bytes statements → ⊥ =
+            subst (λ (b : List ℕ). (statements : List Statement) → IsScript b statements → ⊥) same (subst (λ (x : FormStop). IsParsed seen (Err x)) is parsed) in
+          inl (with_bytes (Err NotBuilt) (refl, none))
 
 -- a script with more bytes than the form allows
 long_script : (bytes text : List ℕ) → IsReadUpTo most bytes text → most < length text → (statements : List Statement) → IsScript bytes statements → ⊥

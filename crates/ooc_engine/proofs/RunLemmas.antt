@@ -112,3 +112,14 @@ ended_usage old new status result fault e is =
       ]
       | inr lost ↦ let h = sym lost ∙ is in cc
     ]
+
+-- a run that ends with a fault of reading was to end so
+pub ended_read : (old new : Option (List ℕ)) (status result : Status) → EndsBy old new status result → result ≡ ReadFault → status ≡ ReadFault
+ended_read old new status result e is =
+    elim (e.ends) as (λ _. status ≡ ReadFault) [
+      | inl whole ↦ elim (e.which) as (λ _. status ≡ ReadFault) [
+        | inl same ↦ sym same ∙ sym whole.0 ∙ is
+        | inr memory ↦ let h = sym memory ∙ sym whole.0 ∙ is in cc
+      ]
+      | inr lost ↦ let h = sym lost ∙ is in cc
+    ]

@@ -22,7 +22,7 @@ pub record SoFar (may from : List ℕ → Status → Type 0) (old new : Option (
   pub appended : Appends old new done
   pub goes_on : (more : List ℕ) (status : Status) → from more status → may (done ++ more) status
 
-Appends-none : (old : Option (List ℕ)) → Appends old old []
+pub Appends-none : (old : Option (List ℕ)) → Appends old old []
 Appends-none None = tt
 Appends-none (Some xs) = sym (append-nil xs)
 

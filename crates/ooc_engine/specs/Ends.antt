@@ -3,11 +3,12 @@ use Rattle.std.specs.Prelude.{ℕ, ◌≡◌, ◌≢◌, ◌≤◌, ◌⊎◌, L
 use Rattle.std.specs.Io.KnownBytes.{Appends}
 use Rattle.ooc_io.specs.Counts.{Rose}
 use Rattle.ooc_types.specs.declared.refusal.RefusalKind.{RefusalKind}
-use Rattle.ooc_types.specs.declared.refusal.RefusalKind.TheVariants.{NotBuilt}
 use Rattle.ooc_engine.specs.declared.statement.Statement.{Statement}
 use Rattle.ooc_engine.specs.declared.status.Status.{Status}
 use Rattle.ooc_engine.specs.declared.status.Status.TheVariants.{Done, Refused, Usage, ReadFault, WriteFault, OutOfMemory}
 use Rattle.ooc_engine.specs.declared.status.UsageFault.{UsageFault}
+use Rattle.ooc_engine.specs.declared.form.FormStop.{FormStop}
+use Rattle.ooc_engine.specs.declared.form.FormStop.TheVariants as stop
 use Rattle.ooc_engine.specs.declared.settings.Settings.{Settings}
 use Rattle.ooc_engine.specs.Lines.{line_of}
 use Rattle.ooc_engine.specs.Status.{script_refused}
@@ -66,10 +67,11 @@ abbrev pub IsScriptRead : Option (List ℕ) → Result (List ℕ) Status → Typ
 IsScriptRead file (Ok bytes) = (file ≡ Some bytes) × (length bytes ≤ most)
 IsScriptRead file (Err status) = ((kind : RefusalKind) × IsTree file (Err kind) × (status ≡ script_refused kind)) ⊎ MayCut status
 
--- the statements of a script's bytes, or none, or want of memory
-abbrev pub IsParsed : List ℕ → Result (List Statement) Status → Type 0
+-- the statements of a script's bytes, none, or want of memory
+abbrev pub IsParsed : List ℕ → Result (List Statement) FormStop → Type 0
+IsParsed bytes (Err stop.NotBuilt) = (statements : List Statement) → IsScript bytes statements → ⊥
+IsParsed bytes (Err stop.OutOfMemory) = ⊤
 IsParsed bytes (Ok statements) = IsScript bytes statements
-IsParsed bytes (Err status) = (IsTree (Some bytes) (Err NotBuilt) × (status ≡ script_refused NotBuilt)) ⊎ (status ≡ OutOfMemory)
 
 -- What a statement's call answers: its block and the catalog that it leaves, one of its refusals, or what may cut the run.
 abbrev pub IsStep : Outcome → Catalog → Result (List ℕ) Status → Type 0

@@ -1,17 +1,16 @@
 //! The statements of a script of the first form: a table, a file that is loaded into it, and a filter.
-ghost use Rattle.std.specs.Prelude.{◌≡◌, ◌<◌, ◌^◌, IfOk, IsTrue, [], vec_len};
+ghost use Rattle.std.specs.Prelude.{◌≡◌, ◌<◌, ◌≤◌, ◌^◌, IfOk, IsTrue, [], ◌∷◌, length, vec_len};
 ghost use Rattle.ooc_engine.specs.Ends.{IsParsed, result_items};
-ghost use Rattle.ooc_engine.specs.ScriptText.{is_formed, statements_of};
-ghost use Rattle.ooc_engine.specs.FormReading.{Reads, result_now, result_pair, result_rest, result_head, behind, first, nothing, type_of, sign_of, columns_of, names_of, front_of, back_of, form_of};
+ghost use Rattle.ooc_engine.specs.ScriptText.{is_formed, statements_of, most};
+ghost use Rattle.ooc_engine.specs.FormReading.{Reads, result_now, result_pair, result_rest, result_head, behind, result_test, result_asked, first, nothing, type_of, sign_of, columns_of, names_of, front_of, filter_of, back_of, form_of_parts, form_of};
 
 use crate::naming::{are_columns, has_integer, have_columns, is_count, is_file_name, is_name, is_number, number_of};
 use crate::statement::{FileName, Filter, Names, Sign, Statement};
-use crate::status::{Place, Refusal, Status};
 use crate::words::{parts_at_quotes, words_in};
-use ooc_types::{Column, OutOfMemory, RefusalKind, Schema, SqlType, Text};
-use std::alloc::Global;
+use ooc_types::{Column, OutOfMemory, Schema, SqlType, Text};
+use std::alloc::{AllocError, Global};
 
-/// Why a script gives no form.
+/// Why a script or a file isn't taken: it isn't of the first form, or memory ran out.
 #[derive(Clone, Copy, Debug, PartialEq, Eq)]
 pub enum FormStop {
     NotBuilt,
@@ -24,6 +23,16 @@ impl From<OutOfMemory> for FormStop {
     ghost from_gives = { λ _ stop. stop ≡ OutOfMemory };
 
     fn from(_: OutOfMemory) -> FormStop {
+        FormStop::OutOfMemory
+    }
+}
+
+impl From<AllocError> for FormStop {
+    ghost use Rattle.ooc_engine.specs.declared.form.FormStop.TheVariants.{OutOfMemory};
+
+    ghost from_gives = { λ _ stop. stop ≡ OutOfMemory };
+
+    fn from(_: AllocError) -> FormStop {
         FormStop::OutOfMemory
     }
 }
@@ -150,10 +159,124 @@ fn front_of<'a>(alloc: Global, words: &'a [Text]) -> Result<(&'a Text, Schema), 
     Ok((table, columns))
 }
 
+// What is compared, its sign and the digits, from the words behind FROM.
+#[tactic(auto, unfolding(crate::specs::FormReading::filter_of))]
+fn filter_of<'a>(table: &[u8], words: &'a [Text]) -> Result<(&'a Text, Sign, &'a Text), FormStop>
+    ensures { Reads (filter_of table.now words.now) (result_test result) }
+{
+    let words = behind(words, table)?;
+    let words = behind(words, b"WHERE")?;
+    let (column, words) = first(words)?;
+    let (sign, words) = first(words)?;
+    let sign = sign_of(sign.as_bytes())?;
+    let (digits, words) = first(words)?;
+    let words = behind(words, b";")?;
+    nothing(words)?;
+    Ok((column, sign, digits))
+}
+
+// The selected names and the filter, from the words behind the file's name.
+#[tactic(auto, unfolding(crate::specs::FormReading::back_of))]
+fn back_of<'a>(
+    alloc: Global,
+    table: &[u8],
+    words: &'a [Text],
+) -> Result<(Names, &'a Text, Sign, &'a Text), FormStop>
+    ensures { Reads (back_of table.now words.now) (result_asked result) }
+{
+    let words = behind(words, b";")?;
+    let words = behind(words, b"SELECT")?;
+    let (names, words) = names_of(alloc, words)?;
+    let (column, sign, digits) = filter_of(table, words)?;
+    Ok((names, column, sign, digits))
+}
+
+// The form that the parts of a script spell.
+#[tactic(auto, unfolding(crate::specs::FormReading::form_of_parts))]
+fn form_of_parts(alloc: Global, front: &[u8], file: &[u8], back: &[u8]) -> Result<Form, FormStop>
+    ensures { Reads (form_of_parts (front.now ∷ file.now ∷ back.now ∷ [])) result }
+{
+    let front = words_in(alloc, front)?;
+    let (table, columns) = front_of(alloc, front.as_slice())?;
+    let back = words_in(alloc, back)?;
+    let (names, column, sign, digits) = back_of(alloc, table.as_bytes(), back.as_slice())?;
+    Ok(Form {
+        table: table.clone()?,
+        columns,
+        file: Text::from_slice(alloc, file)?,
+        names,
+        column: column.clone()?,
+        sign,
+        digits: digits.clone()?,
+    })
+}
+
+// The form that a script's bytes spell.
+fn form_of(alloc: Global, text: &[u8]) -> Result<Form, FormStop>
+    ensures { Reads (form_of text.now) result }
+{
+    let parts = parts_at_quotes(alloc, text)?;
+    if parts.len() != 3 {
+        return Err(FormStop::NotBuilt);
+    }
+    form_of_parts(alloc, parts[0], parts[1], parts[2])
+}
+
+// Whether what it names is named well.
+fn is_formed(form: &Form) -> bool
+    ensures { result ≡ is_formed form.now }
+{
+    let columns = form.columns.as_slice();
+    let table = is_name(form.table.as_bytes()) && is_count(columns.len()) && are_columns(columns) && is_file_name(form.file.as_bytes());
+    let names = form.names.as_slice();
+    let asked = is_count(names.len()) && have_columns(columns, names) && has_integer(columns, form.column.as_bytes());
+    table && asked && is_number(form.digits.as_bytes())
+}
+
+// The three statements.
+fn statements_of(alloc: Global, form: Form) -> Result<Vec<Statement>, OutOfMemory>
+    requires { IsTrue (is_formed form) }
+    ensures { IfOk result (λ statements. statements.items ≡ statements_of form) }
+{
+    let number = number_of(form.digits.as_bytes());
+    let file = FileName::from_utf8(alloc, form.file.as_bytes())?;
+    let copied = form.table.clone()?;
+    let asked = form.table.clone()?;
+    let mut statements = Vec::with_capacity(alloc, 3)?;
+    statements.push(Statement::Create {
+        table: form.table,
+        columns: form.columns,
+    })?;
+    statements.push(Statement::Copy {
+        table: copied,
+        file,
+    })?;
+    statements.push(Statement::Select {
+        table: asked,
+        names: form.names,
+        filter: Filter {
+            column: form.column,
+            sign: form.sign,
+            number,
+        },
+    })?;
+    Ok(statements)
+}
+
 /// The statements of a script's bytes.
-pub fn parse(alloc: Global, text: &[u8]) -> Result<Vec<Statement>, Status>
+pub fn parse(alloc: Global, text: &[u8]) -> Result<Vec<Statement>, FormStop>
+    requires { length text.now ≤ most }
     ensures parsed { IsParsed text.now (result_items result) }
     ensures few { IfOk result (λ statements. vec_len statements < 2 ^ 31) }
 {
-    Err(Status::OutOfMemory)
+    match form_of(alloc, text) {
+        Ok(form) => {
+            if is_formed(&form) {
+                Ok(statements_of(alloc, form)?)
+            } else {
+                Err(FormStop::NotBuilt)
+            }
+        }
+        Err(stop) => Err(stop),
+    }
 }

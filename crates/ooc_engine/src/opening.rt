@@ -4,9 +4,10 @@ ghost use Rattle.std.specs.FinMap.{get};
 ghost use Rattle.ooc_io.specs.Counts.{Rose};
 ghost use Rattle.ooc_engine.specs.Settings.{settings, words_of};
 ghost use Rattle.ooc_engine.specs.Status.{script_refused};
+ghost use Rattle.ooc_engine.specs.ScriptText.{most};
 ghost use Rattle.ooc_engine.specs.Ends.{IsScriptRead, IsScriptOpened, IsOfFiles, result_items};
 
-use crate::form::parse;
+use crate::form::{FormStop, parse};
 use crate::reading::{ReadFailure, read_up_to};
 use crate::settings::{Settings, read_settings};
 use crate::statement::Statement;
@@ -34,6 +35,7 @@ fn read_script<F: Files>(alloc: Global, files: &mut F, name: &str) -> Result<Vec
     ensures holds { F.holds files.new ≡ F.holds files.old }
     ensures later { F.faults files.old ≤ F.faults files.new }
     ensures cause { result ≡ Err Status.ReadFault → Rose (F.faults files.old) (F.faults files.new) }
+    ensures short { IfOk result (λ text. vec_len text ≤ most) }
     ensures kinds { IfErr result IsOfFiles }
 {
     match files.open(name) {
@@ -71,6 +73,7 @@ pub fn open_script<F: Files>(
     let text = read_script(alloc, files, settings.script.as_str())?;
     match parse(alloc, text.as_slice()) {
         Ok(statements) => Ok((settings, statements)),
-        Err(status) => Err(status),
+        Err(FormStop::NotBuilt) => Err(script_refused(RefusalKind::NotBuilt)),
+        Err(FormStop::OutOfMemory) => Err(Status::OutOfMemory),
     }
 }

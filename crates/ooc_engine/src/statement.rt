@@ -1,5 +1,5 @@
 //! The statements of a script.
-ghost use Rattle.std.specs.Prelude.{◌≡◌, IfOk, [], ◌∷◌, ◌++◌, OnOk, OnErr};
+ghost use Rattle.std.specs.Prelude.{◌≡◌, IfOk, IsUtf8, [], ◌∷◌, ◌++◌, OnOk, OnErr};
 
 use ooc_types::{OutOfMemory, Schema, Text};
 use std::alloc::Global;
@@ -65,6 +65,20 @@ impl FileName {
         Ok(FileName {
             text: String::from_str(alloc, name)?,
         })
+    }
+
+    /// The name of these bytes, which are UTF-8.
+    pub fn from_utf8(alloc: Global, name: &[u8]) -> Result<FileName, OutOfMemory>
+        requires { IsUtf8 name.now }
+        ensures { IfOk result (λ n. n ≡ name.now) }
+    {
+        match str::from_utf8(name) {
+            Ok(name) => FileName::from_str(alloc, name),
+            Err(_) => {
+                prove!(false);
+                Err(OutOfMemory)
+            }
+        }
     }
 
     pub fn as_str(&self) -> &str
