@@ -4,3 +4,9 @@ pub mod SoFar
 pub mod CountedLemmas
 pub mod Opened
 pub mod Top
+pub mod SplitLemmas
+pub mod PageLemmas
+pub mod TableLemmas
+pub mod LoadLemmas
+pub mod MeetsLemmas
+pub mod SelectLemmas

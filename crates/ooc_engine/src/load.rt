@@ -1,13 +1,13 @@
 //! Loading a file into a table.
-ghost use Rattle.std.specs.Prelude.{◌≡◌, ◌==◌, ◌||◌, ◌++◌, [], ◌∷◌, Some, None, OnOk, if◌then◌else◌};
+ghost use Rattle.std.specs.Prelude.{◌≡◌, ◌==◌, ◌||◌, ◌++◌, [], ◌∷◌, OnOk};
 ghost use Rattle.ooc_engine.specs.FileRows.{file_rows, row_of, fields_in, rows_behind_header, rows_of_records, is_header, field_value};
-ghost use Rattle.ooc_engine.specs.ScriptText.{is_number, number_of, is_small, is_digit, is_made_of};
-ghost use Rattle.std.specs.List.{slice_split};
+ghost use Rattle.ooc_engine.specs.ScriptText.{is_small, is_digit, is_made_of};
+ghost use Rattle.std.specs.List.{list_any, slice_split};
 ghost use Rattle.ooc_engine.specs.Parts.{option_now, parts_left};
 ghost use Rattle.ooc_engine.specs.Loaded.{Loads, IsRead, IsPushed};
 
 use crate::form::FormStop;
-use crate::naming::{is_digit, is_small};
+use crate::naming::{is_digit, is_number, is_small, number_of};
 use crate::split::first_part;
 use crate::table::Table;
 use ooc_types::{Column, OutOfMemory, SqlType};
@@ -22,13 +22,10 @@ const MOST: usize = 1_048_576;
 pub fn load(alloc: Global, table: &mut Table, bytes: &[u8]) -> Result<(), FormStop>
     ensures { Loads table.old (file_rows table.old.schema bytes.now) result table.new }
 {
-    if bytes.len() > MOST {
+    if bytes.len() > MOST || !bytes.ends_with(b"\n") {
         return Err(FormStop::NotBuilt);
     }
-    match bytes {
-        [text @ .., b'\n'] => load_text(alloc, table, text),
-        _ => Err(FormStop::NotBuilt),
-    }
+    load_text(alloc, table, &bytes[..bytes.len() - 1])
 }
 
 // The rows of a text of records, each but the last of which ends with a line feed.
@@ -47,14 +44,19 @@ fn load_text(alloc: Global, table: &mut Table, text: &[u8]) -> Result<(), FormSt
 fn is_header(header: &[u8]) -> bool
     ensures { result ≡ is_header header.now }
 {
-    !header.is_empty()
-        && !header.iter().any(|byte| *byte == b'\r' || *byte == b'"')
-        && !header.starts_with(b"\xEF\xBB\xBF")
+    header.len() >= 1 && !is_special(header) && !header.starts_with(b"\xEF\xBB\xBF")
+}
+
+// Whether a carriage return or a double quote stands in it.
+fn is_special(header: &[u8]) -> bool
+    ensures { result ≡ list_any (λ byte. byte == 13 || byte == 34) header.now }
+{
+    header.iter().any(|byte| *byte == b'\r' || *byte == b'"')
 }
 
 // The rows of the records that are left.
 fn load_records(alloc: Global, table: &mut Table, records: Option<&[u8]>) -> Result<(), FormStop>
-    ensures { Loads table.old (rows_of_records table.old.schema (parts_left 10 (option_now records))) result table.new }
+    ensures { Loads table.old (rows_of_records table.old.schema (parts_left 10 (option_now records.entry))) result table.new }
 {
     let mut cells = Vec::new(alloc);
     let mut left = records;
@@ -102,46 +104,31 @@ fn push_cell<'a>(
 ) -> Result<(), FormStop>
     ensures { IsPushed (field_value kind field.now) cells.old.items result cells.new.items }
 {
-    let cell = match kind {
-        SqlType::Integer => match read_number(field) {
-            Some(number) => CellIn::Number(i128::from(number)),
-            None => return Err(FormStop::NotBuilt),
-        },
-        SqlType::Varchar if is_short_text(field) => CellIn::Short(field),
-        _ => return Err(FormStop::NotBuilt),
-    };
-    Ok(add(cell, cells)?)
+    match kind {
+        SqlType::Integer if is_number(field) => {
+            add(CellIn::Number(i128::from(number_of(field))), cells)?;
+            Ok(())
+        }
+        SqlType::Varchar if is_short_text(field) => {
+            add(CellIn::Short(field), cells)?;
+            Ok(())
+        }
+        _ => Err(FormStop::NotBuilt),
+    }
 }
 
 fn add<'a>(cell: CellIn<'a>, cells: &mut Vec<CellIn<'a>>) -> Result<(), OutOfMemory>
-    ensures { OnOk result (cells.new.items ≡ cells.old.items ++ cell ∷ []) }
+    ensures { OnOk result (cells.new.items ≡ cells.old.items ++ cell.entry ∷ []) }
 {
     cells.push(cell)?;
     Ok(())
-}
-
-// The number that 1 to 9 digits spell.
-fn read_number(field: &[u8]) -> Option<u32>
-    ensures { result ≡ (if is_number field.now then Some (number_of field.now) else None) }
-{
-    if field.is_empty() || field.len() > 9 {
-        return None;
-    }
-    let mut number = 0;
-    for byte in field {
-        if !is_digit(*byte) {
-            return None;
-        }
-        number = number * 10 + u32::from(*byte - b'0');
-    }
-    Some(number)
 }
 
 // 1 to 12 of a to z and 0 to 9.
 fn is_short_text(field: &[u8]) -> bool
     ensures { result ≡ is_made_of (λ byte. is_small byte || is_digit byte) 12 field.now }
 {
-    !field.is_empty()
+    field.len() >= 1
         && field.len() <= 12
         && field.iter().all(|byte| is_small(*byte) || is_digit(*byte))
 }

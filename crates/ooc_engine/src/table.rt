@@ -6,7 +6,7 @@ ghost use Rattle.ooc_engine.specs.Stored.{cell_kind, cell_kinds};
 ghost use Rattle.ooc_engine.specs.Pages.{given_values, rows_on, IsRowPage, IsOpenPage};
 ghost use Rattle.ooc_engine.specs.Catalog.{more_rows};
 
-use crate::page::{Page, page_of_row, put_row};
+use crate::page::{Page, page_of_row, put_in_open};
 use ooc_types::{Column, OutOfMemory, Schema, SqlType};
 use row_image::{CellIn, CellKind, Layout};
 use std::alloc::Global;
@@ -81,11 +81,12 @@ impl Table {
         ensures ok { OnOk result (self.new ≡ more_rows self.old (given_values cells.now ∷ [])) }
         ensures err { OnErr result (self.new ≡ self.old) }
     {
-        if !self.last.is_empty() && put_row(&self.layout, self.last.as_mut_slice(), cells) {
+        if put_in_open(&self.layout, &mut self.last, cells) {
             return Ok(());
         }
         let page = page_of_row(*self.last.allocator(), &self.layout, cells)?;
-        open_page(&mut self.full, &mut self.last, page)
+        open_page(&mut self.full, &mut self.last, page)?;
+        Ok(())
     }
 }
 
