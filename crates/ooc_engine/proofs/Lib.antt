@@ -10,3 +10,6 @@ pub mod TableLemmas
 pub mod LoadLemmas
 pub mod MeetsLemmas
 pub mod SelectLemmas
+pub mod DigitLemmas
+pub mod FormLemmas
+pub mod FormFound

@@ -1,6 +1,9 @@
 -- Rows that are read record by record, and rows that are read field by field.
-use Rattle.std.proofs.Common.{◌≡◌, ℕ, List, [], ◌∷◌, ◌++◌, map, Option, None, Some, refl, sym, ap, ◌∙◌, append_assoc, append-nil}
-use Rattle.std.specs.Prelude.{option_map, option_and_then}
+use Rattle.std.proofs.Common.{◌≡◌, ℕ, List, [], ◌∷◌, ◌++◌, map, Option, None, Some, refl, sym, ap, ◌∙◌, append_assoc, append-nil, ◌+◌, ◌≤◌, length, drop, arith}
+use Rattle.std.specs.Prelude.{option_map, option_and_then, ◌==◌}
+use Rattle.std.specs.List.{slice_split}
+use Rattle.std.proofs.Math.ListN.{drop_of_length-le}
+use Rattle.std.proofs.lemmas.List.Splits.{length-slice_split}
 use Rattle.ooc_types.specs.declared.schema.Column.{Column}
 use Rattle.ooc_types.specs.declared.value.Value.{Value}
 use Rattle.row_image.specs.declared.cell.CellIn.{CellIn}
@@ -60,3 +63,15 @@ pub no_values : (columns : List Column) (cells : List CellIn) (column : Column) 
     → goal ≡ None
 no_values columns cells column field fields goal read so_far =
     so_far ∙ ap (λ o. option_map (λ values. given_values cells ++ values) (option_and_then (λ value. option_map (λ values. value ∷ values) (row_of columns fields)) o)) read
+
+no_columns : (fields : List (List ℕ)) → 1 ≤ length fields → row_of [] fields ≡ None
+no_columns [] some = absurd (omega arith)
+no_columns (field ∷ fields) some = refl
+
+-- fields behind the last column
+pub left_over : (columns : List Column) (cells : List CellIn) (i : ℕ) (text : List ℕ) (goal : Option (List Value)) → length columns ≤ i
+    → goal ≡ option_map (λ values. given_values cells ++ values) (row_of (drop i columns) (slice_split (λ byte. byte == 44) text)) → goal ≡ None
+left_over columns cells i text goal past so_far =
+    let parts = slice_split (λ byte. byte == 44) text in
+    let some : 1 ≤ length parts = omega (arith, length-slice_split (λ byte. byte == 44) text) in
+    so_far ∙ ap (λ columns. option_map (λ values. given_values cells ++ values) (row_of columns parts)) (drop_of_length-le columns past) ∙ ap (λ o. option_map (λ values. given_values cells ++ values) o) (no_columns parts some)

@@ -3,6 +3,7 @@ use Rattle.std.proofs.Common.{◌≡◌, ℕ, zero, suc, ◌+◌, ◌-◌, ◌*�
 use Rattle.std.specs.Prelude.{ℤ, pos, option_map, option_and_then, IsTrue, ◌&&◌, ◌||◌, if◌then◌else◌, fold}
 use Rattle.std.specs.List.{list_all}
 use Rattle.std.specs.Int.{w32}
+use Rattle.std.proofs.lemmas.Bool.{leb-true}
 use Rattle.std.proofs.lemmas.Int.{fits_signed_from_abs}
 use Rattle.ooc_types.specs.declared.schema.Column.{Column}
 use Rattle.ooc_types.specs.declared.schema.SqlType.{SqlType}
@@ -38,7 +39,7 @@ both true b h = (refl, h)
 both false b h = cc
 
 digit_value : (byte : ℕ) → is_digit byte ≡ true → byte - 48 ≤ 9
-digit_value byte h = grind arith
+digit_value byte h = let most = leb-true byte 57 (both _ _ h).1 in omega arith
 
 small_number : (digits : List ℕ) (n bound : ℕ) → list_all is_digit digits ≡ true → n < bound → fold (λ n byte. n * 10 + (byte - 48)) n digits < bound * tens (length digits)
 small_number [] n bound all small = omega arith
@@ -52,7 +53,7 @@ pub number_is_small : (text : List ℕ) → is_number text ≡ true → number_o
 number_is_small text h =
     let parts = both _ _ h in
     let lengths = both _ _ parts.0 in
-    let few : length text ≤ 9 = grind (arith, lengths.1) in
+    let few : length text ≤ 9 = leb-true _ _ lengths.1 in
     let most = more_tens (length text) 9 few in
     omega (arith, small_number text 0 1 parts.1 (omega arith), most)
 
@@ -74,7 +75,7 @@ text_takes true text v (LongCell prefix size address) is read e = cc
 text_takes true text v (ShortCell bytes) is read e =
     let same : bytes ≡ text = cc in
     let lengths = both _ _ (both _ _ is).0 in
-    let few : length text ≤ 12 = grind (arith, lengths.1) in
+    let few : length text ≤ 12 = leb-true _ _ lengths.1 in
     rw same few
 
 value_takes : (kind : SqlType) (text : List ℕ) (v : Value) (cell : StoredCell) → field_value kind text ≡ Some v → cell_value cell ≡ v → Takes (cell_kind kind) 12 cell

@@ -99,26 +99,49 @@ no_page kinds (byte ∷ page) h = absurd (omega arith)
 
 -- places of names
 
+place_at : (same rest : Bool) (place count : ℕ) → (rest ≡ true → place < count) → (same || rest) ≡ true → cond same 0 (place + 1) < count + 1
+place_at true rest place count h is = omega arith
+place_at false rest place count h is = omega (arith, h is)
+
 pub place_within : (columns : List Column) (name : List ℕ) → has_column columns name ≡ true → place_of columns name < length columns
 place_within [] name h = cc
-place_within (column ∷ columns) name h = place_at (bytes_eq column.name name) h
-  where
-    place_at : (same : Bool) → (same || has_column columns name) ≡ true → (cond same 0 (place_of columns name + 1)) < length (column ∷ columns)
-    place_at true h = omega arith
-    place_at false h = omega (arith, place_within columns name h)
+place_within (column ∷ columns) name h =
+    let within = place_at (bytes_eq column.name name) (has_column columns name) (place_of columns name) (length columns) (place_within columns name) h in
+    omega arith
 
 pub places_within : (columns : List Column) (names : List (List ℕ)) → have_columns columns names ≡ true → All (λ place. place < length columns) (map (place_of columns) names)
 places_within columns [] h = tt
 places_within columns (name ∷ names) h = let p = either _ _ h in (place_within columns name p.0, places_within columns names p.1)
 
+any_of : (same integer rest others : Bool) → (rest ≡ true → others ≡ true) → ((same && integer) || rest) ≡ true → (same || others) ≡ true
+any_of true integer rest others h is = refl
+any_of false integer rest others h is = h is
+
 pub integer_is_column : (columns : List Column) (name : List ℕ) → has_integer columns name ≡ true → has_column columns name ≡ true
 integer_is_column [] name h = h
-integer_is_column (column ∷ columns) name h = ?
+integer_is_column (column ∷ columns) name h = any_of (bytes_eq column.name name) (is_integer column.kind) (has_integer columns name) (has_column columns name) (integer_is_column columns name) h
 
 -- the columns of names
 
+next_column : (columns : List Column) (column : Column) (n : ℕ) → slice_range (column ∷ columns) (n + 1) (n + 1 + 1) ≡ slice_range columns n (n + 1)
+next_column columns column n =
+    let one : n + 1 + 1 - (n + 1) ≡ n + 1 - n = omega arith in
+    let rest : drop (n + 1) (column ∷ columns) ≡ drop n columns = ap (λ (k : ℕ). drop k (column ∷ columns)) (add-one n) in
+    ap (λ (k : ℕ). take k (drop (n + 1) (column ∷ columns))) one ∙ ap (take (n + 1 - n)) rest
+
+column_at : (columns : List Column) (column : Column) (name : List ℕ) (place : ℕ) (same : Bool) → bytes_eq column.name name ≡ same
+    → (same ≡ false → map column_text (slice_range columns place (place + 1)) ≡ field_text name ∷ [])
+    → map column_text (slice_range (column ∷ columns) (cond same 0 (place + 1)) (cond same 0 (place + 1) + 1)) ≡ field_text name ∷ []
+column_at columns column name place true is rest = ap (λ (n : List ℕ). field_text n ∷ []) ((bytes_eq-Decides column.name name).0 is)
+column_at columns column name place false is rest = ap (map column_text) (next_column columns column place) ∙ rest refl
+
+found_behind : (same rest : Bool) → (same || rest) ≡ true → same ≡ false → rest ≡ true
+found_behind true rest h no = cc
+found_behind false rest h no = h
+
 one_column : (columns : List Column) (name : List ℕ) → has_column columns name ≡ true → map column_text (slice_range columns (place_of columns name) (place_of columns name + 1)) ≡ field_text name ∷ []
-one_column columns name h = ?
+one_column [] name h = cc
+one_column (column ∷ columns) name h = column_at columns column name (place_of columns name) (bytes_eq column.name name) refl (λ no. one_column columns name (found_behind _ _ h no))
 
 pub names_are : (columns : List Column) (names : List (List ℕ)) → have_columns columns names ≡ true → map column_text (picked_columns columns names) ≡ map field_text names
 names_are columns [] h = refl

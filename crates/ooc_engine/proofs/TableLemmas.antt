@@ -54,11 +54,16 @@ module _ (schema : List Column) (kinds : List CellKind) (laid : kinds ≡ cell_k
         let more : view_of full new ≡ more_rows (view_of full old) (given_values cells ∷ []) = ap (λ rows. record { schema = schema; rows = rows }) (rows_more (cell_kinds schema) full old new cells put) in
         more ∙ ap (λ t. more_rows t (given_values cells ∷ [])) is
 
-    pub begun_view : rows_of kinds new ≡ given_row cells 0 ∷ [] → view_of (cond (eqb (length old) 0) full (full ++ old ∷ [])) new ≡ more_rows table (given_values cells ∷ [])
-    begun_view e =
+    begun : rows_of kinds new ≡ given_row cells 0 ∷ [] → view_of (cond (eqb (length old) 0) full (full ++ old ∷ [])) new ≡ more_rows table (given_values cells ∷ [])
+    begun e =
         let put : rows_of (cell_kinds schema) new ≡ given_row cells 0 ∷ [] = subst (λ (k : List CellKind). rows_of k new ≡ given_row cells 0 ∷ []) laid e in
         let more : view_of (cond (eqb (length old) 0) full (full ++ old ∷ [])) new ≡ more_rows (view_of full old) (given_values cells ∷ []) = ap (λ rows. record { schema = schema; rows = rows }) (rows_begun (cell_kinds schema) full old new cells put) in
         more ∙ ap (λ t. more_rows t (given_values cells ∷ [])) is
+
+    pub begun_view : (kept : List ℕ) (now : List (List ℕ)) → kept ≡ old → now ≡ cond (eqb (length kept) 0) full (full ++ kept ∷ []) → rows_of kinds new ≡ given_row cells 0 ∷ [] → view_of now new ≡ more_rows table (given_values cells ∷ [])
+    begun_view kept now same joined e =
+        let all : now ≡ cond (eqb (length old) 0) full (full ++ old ∷ []) = joined ∙ ap (λ (k : List ℕ). cond (eqb (length k) 0) full (full ++ k ∷ [])) same in
+        ap (λ (pages : List (List ℕ)). view_of pages new) all ∙ begun e
 
 -- what it keeps, with another open page
 all_begun : (kinds : List CellKind) (full : List (List ℕ)) (old : List ℕ) → All (IsRowPage kinds) full → IsOpenPage kinds old → All (IsRowPage kinds) (cond (eqb (length old) 0) full (full ++ old ∷ []))

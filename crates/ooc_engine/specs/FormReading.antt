@@ -74,13 +74,10 @@ front_of words = do
   ended ← nothing behind_from
   Some (named.0, declared.0)
 
--- the selected names and the filter, from the words behind the file's name
-unfoldable pub back_of : List ℕ → Words → Option (List (List ℕ) × List ℕ × Sign × List ℕ)
-back_of table words = do
-  behind_end ← behind (codes ";") words
-  behind_select ← behind (codes "SELECT") behind_end
-  chosen ← names_of behind_select
-  behind_table ← behind table chosen.1
+-- what is compared, its sign and the digits, from the words behind FROM
+unfoldable pub filter_of : List ℕ → Words → Option (List ℕ × Sign × List ℕ)
+filter_of table words = do
+  behind_table ← behind table words
   behind_where ← behind (codes "WHERE") behind_table
   compared ← first behind_where
   signed ← first compared.1
@@ -88,7 +85,16 @@ back_of table words = do
   counted ← first signed.1
   behind_all ← behind (codes ";") counted.1
   ended ← nothing behind_all
-  Some (chosen.0, compared.0, sign, counted.0)
+  Some (compared.0, sign, counted.0)
+
+-- the selected names and the filter, from the words behind the file's name
+unfoldable pub back_of : List ℕ → Words → Option (List (List ℕ) × List ℕ × Sign × List ℕ)
+back_of table words = do
+  behind_end ← behind (codes ";") words
+  behind_select ← behind (codes "SELECT") behind_end
+  chosen ← names_of behind_select
+  test ← filter_of table chosen.1
+  Some (chosen.0, test.0, test.1, test.2)
 
 unfoldable pub form_of_parts : List (List ℕ) → Option Form
 form_of_parts [] = None
@@ -121,6 +127,14 @@ result_pair (Ok p) = Ok (p.0.now, p.1.now)
 abbrev pub result_rest : {A B : Type 0} → Result (A × Bor B) FormStop → Result (A × B) FormStop
 result_rest (Err e) = Err e
 result_rest (Ok p) = Ok (p.0, p.1.now)
+
+abbrev pub result_asked : {A B C D : Type 0} → Result (A × Bor B × C × Bor D) FormStop → Result (A × B × C × D) FormStop
+result_asked (Err e) = Err e
+result_asked (Ok p) = Ok (p.0, p.1.now, p.2, p.3.now)
+
+abbrev pub result_test : {A B C : Type 0} → Result (Bor A × B × Bor C) FormStop → Result (A × B × C) FormStop
+result_test (Err e) = Err e
+result_test (Ok p) = Ok (p.0.now, p.1, p.2.now)
 
 abbrev pub result_head : {A B : Type 0} → Result (Bor A × B) FormStop → Result (A × B) FormStop
 result_head (Err e) = Err e

@@ -7,9 +7,10 @@
 -- A text holds no blank, no sign and no quote, so the parts between the script's quotes are: what stands before the
 -- file's name, the name, and what stands behind it. Outside of the quotes a word is what stands between blanks, where
 -- each sign is a word of its own.
-use Rattle.std.specs.Prelude.{ℕ, ◌≡◌, ◌≤◌, ◌+◌, ◌-◌, ◌*◌, Bool, true, false, ◌==◌, ◌&&◌, ◌||◌, not, if◌then◌else◌, nat_le, List, [], ◌∷◌, ◌++◌, map, filter, fold, flat_map, length, codes, IsTrue}
+use Rattle.std.specs.Prelude.{ℕ, ◌≡◌, ◌≤◌, ◌+◌, ◌-◌, ◌*◌, Bool, true, false, ◌==◌, ◌&&◌, ◌||◌, not, if◌then◌else◌, nat_le, List, [], ◌∷◌, ◌++◌, map, filter, fold, flat_map, length, codes, is_none, IsTrue}
 use Rattle.std.specs.List.{slice_split, list_all, list_any}
 use Rattle.std.specs.Str.{bytes_eq}
+use Rattle.sql_lex.specs.Words.{word_of}
 use Rattle.ooc_types.specs.declared.schema.Column.{Column}
 use Rattle.ooc_types.specs.declared.schema.SqlType.{SqlType}
 use Rattle.ooc_types.specs.declared.schema.SqlType.TheVariants.{Integer, Varchar}
@@ -88,21 +89,20 @@ pub record IsSpelled (f : Form) (bytes : List ℕ) : Type 0 where
   pub before : words_in front ≡ front_words f
   pub behind : words_in back ≡ back_words f
 
--- the words that are no names, in small letters
-abbrev pub reserved : List (List ℕ)
-reserved = slice_split (λ byte. byte == 32) (codes "all and as asc between by copy create cross desc distinct drop except explain false from group having in inner intersect is join left like limit not null offset on or order outer select table true union where")
-
 -- between one and so many bytes, each of which passes
 abbrev pub is_made_of : (ℕ → Bool) → ℕ → List ℕ → Bool
 is_made_of passes most text = (nat_le 1 (length text) && nat_le (length text) most) && list_all passes text
 
 -- 1 to 63 letters from a to z, and no reserved word
 abbrev pub is_name : List ℕ → Bool
-is_name text = is_made_of is_small 63 text && not (list_any (λ word. bytes_eq word text) reserved)
+is_name text = is_made_of is_small 63 text && is_none (word_of text)
+
+abbrev pub is_of_files : ℕ → Bool
+is_of_files byte = (is_small byte || is_digit byte) || (byte == 46 || byte == 95)
 
 -- 1 to 63 of a to z, 0 to 9, full stop and underscore
 abbrev pub is_file_name : List ℕ → Bool
-is_file_name text = is_made_of (λ byte. (is_small byte || is_digit byte) || (byte == 46 || byte == 95)) 63 text
+is_file_name text = is_made_of is_of_files 63 text
 
 abbrev pub is_number : List ℕ → Bool
 is_number text = is_made_of is_digit 9 text

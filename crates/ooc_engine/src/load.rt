@@ -1,8 +1,8 @@
 //! Loading a file into a table.
-ghost use Rattle.std.specs.Prelude.{◌≡◌, ◌==◌, ◌||◌, ◌++◌, [], ◌∷◌, OnOk};
+ghost use Rattle.std.specs.Prelude.{◌≡◌, ◌==◌, ◌||◌, ◌&&◌, ◌++◌, [], ◌∷◌, OnOk, nat_le, length};
 ghost use Rattle.ooc_engine.specs.FileRows.{file_rows, row_of, fields_in, rows_behind_header, rows_of_records, is_header, field_value};
 ghost use Rattle.ooc_engine.specs.ScriptText.{is_small, is_digit, is_made_of};
-ghost use Rattle.std.specs.List.{list_any, slice_split};
+ghost use Rattle.std.specs.List.{list_all, list_any, slice_split};
 ghost use Rattle.ooc_engine.specs.Parts.{option_now, parts_left};
 ghost use Rattle.ooc_engine.specs.Loaded.{Loads, IsRead, IsPushed};
 
@@ -128,7 +128,18 @@ fn add<'a>(cell: CellIn<'a>, cells: &mut Vec<CellIn<'a>>) -> Result<(), OutOfMem
 fn is_short_text(field: &[u8]) -> bool
     ensures { result ≡ is_made_of (λ byte. is_small byte || is_digit byte) 12 field.now }
 {
-    field.len() >= 1
-        && field.len() <= 12
-        && field.iter().all(|byte| is_small(*byte) || is_digit(*byte))
+    is_short(field) && are_plain(field)
+}
+
+fn is_short(field: &[u8]) -> bool
+    ensures { result ≡ (nat_le 1 (length field.now) && nat_le (length field.now) 12) }
+{
+    field.len() >= 1 && field.len() <= 12
+}
+
+// Whether each byte is one of a to z and 0 to 9.
+fn are_plain(field: &[u8]) -> bool
+    ensures { result ≡ list_all (λ byte. is_small byte || is_digit byte) field.now }
+{
+    field.iter().all(|byte| is_small(*byte) || is_digit(*byte))
 }

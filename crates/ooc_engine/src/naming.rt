@@ -1,10 +1,10 @@
 //! Which texts of a script are names, file names and numbers.
 ghost use Rattle.std.specs.Prelude.{◌≡◌, ◌&&◌, nat_le, IsTrue, length};
-ghost use Rattle.std.specs.List.{list_any};
-ghost use Rattle.std.specs.Str.{bytes_eq};
-ghost use Rattle.ooc_engine.specs.ScriptText.{is_small, is_digit, is_name, is_file_name, is_number, reserved, has_column, has_integer, is_integer, are_columns, is_plain, is_count, have_columns, number_of};
+ghost use Rattle.std.specs.List.{list_all};
+ghost use Rattle.ooc_engine.specs.ScriptText.{is_small, is_of_files, is_digit, is_name, is_file_name, is_number, has_column, has_integer, is_integer, are_columns, is_plain, is_count, have_columns, number_of};
 
 use ooc_types::{Column, SqlType, Text};
+use sql_lex::word_of;
 
 pub fn is_small(byte: u8) -> bool
     ensures { result ≡ is_small byte }
@@ -18,17 +18,6 @@ pub fn is_digit(byte: u8) -> bool
     byte >= b'0' && byte <= b'9'
 }
 
-/// The words that are no names, parted by blanks.
-const RESERVED: &[u8] = b"all and as asc between by copy create cross desc distinct drop except explain false from group having in inner intersect is join left like limit not null offset on or order outer select table true union where";
-
-fn is_reserved(text: &[u8]) -> bool
-    ensures { result ≡ list_any (λ word. bytes_eq word text.now) reserved }
-{
-    RESERVED
-        .split(|byte| *byte == b' ')
-        .any(|word| word == text)
-}
-
 // Between one and so many bytes.
 fn has_length(text: &[u8], most: usize) -> bool
     ensures { result ≡ (nat_le 1 (length text.now) && nat_le (length text.now) most) }
@@ -36,26 +25,44 @@ fn has_length(text: &[u8], most: usize) -> bool
     text.len() >= 1 && text.len() <= most
 }
 
+fn are_small(text: &[u8]) -> bool
+    ensures { result ≡ list_all is_small text.now }
+{
+    text.iter().all(|byte| is_small(*byte))
+}
+
+fn are_digits(text: &[u8]) -> bool
+    ensures { result ≡ list_all is_digit text.now }
+{
+    text.iter().all(|byte| is_digit(*byte))
+}
+
+fn are_of_files(text: &[u8]) -> bool
+    ensures { result ≡ list_all is_of_files text.now }
+{
+    text.iter()
+        .all(|byte| is_small(*byte) || is_digit(*byte) || *byte == b'.' || *byte == b'_')
+}
+
 /// 1 to 63 letters from a to z, and no reserved word.
 pub fn is_name(text: &[u8]) -> bool
     ensures { result ≡ is_name text.now }
 {
-    has_length(text, 63) && text.iter().all(|byte| is_small(*byte)) && !is_reserved(text)
+    has_length(text, 63) && are_small(text) && word_of(text).is_none()
 }
 
 /// 1 to 63 of a to z, 0 to 9, full stop and underscore.
 pub fn is_file_name(text: &[u8]) -> bool
     ensures { result ≡ is_file_name text.now }
 {
-    has_length(text, 63)
-        && text.iter().all(|byte| is_small(*byte) || is_digit(*byte) || *byte == b'.' || *byte == b'_')
+    has_length(text, 63) && are_of_files(text)
 }
 
 /// 1 to 9 digits.
 pub fn is_number(text: &[u8]) -> bool
     ensures { result ≡ is_number text.now }
 {
-    has_length(text, 9) && text.iter().all(|byte| is_digit(*byte))
+    has_length(text, 9) && are_digits(text)
 }
 
 /// The number that digits spell.
