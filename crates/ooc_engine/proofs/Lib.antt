@@ -4,6 +4,12 @@ pub mod SoFar
 pub mod CountedLemmas
 pub mod Opened
 pub mod Top
+pub mod SplitLemmas
+pub mod PageLemmas
+pub mod TableLemmas
+pub mod LoadLemmas
+pub mod MeetsLemmas
+pub mod SelectLemmas
 pub mod DigitLemmas
 pub mod FormLemmas
 pub mod FormFound

@@ -6,9 +6,13 @@ pub mod Block
 pub mod ScriptText
 pub mod FormReading
 pub mod Stored
+pub mod Pages
+pub mod Parts
 pub mod Script
 pub mod FileRows
+pub mod Loaded
 pub mod Meaning
+pub mod Selected
 pub mod Says
 pub mod Counted
 pub mod Ends

@@ -5,5 +5,6 @@ mod field;
 mod length;
 mod line;
 
+pub use field::push_field;
 pub use length::row_length;
 pub use line::{print_header, print_row};
