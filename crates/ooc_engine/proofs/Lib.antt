@@ -14,3 +14,4 @@ pub mod DigitLemmas
 pub mod FormLemmas
 pub mod FormFound
 pub mod NameLemmas
+pub mod NamedLemmas

@@ -2,6 +2,7 @@ pub mod Settings
 pub mod Status
 pub mod Lines
 pub mod Catalog
+pub mod Named
 pub mod Block
 pub mod ScriptText
 pub mod FormReading

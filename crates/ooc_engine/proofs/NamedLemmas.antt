@@ -1,0 +1,97 @@
+-- A list of named tables as a finite map.
+use Rattle.std.proofs.Common.{◌≡◌, ℕ, suc, zero, ◌+◌, ◌<◌, Bool, true, false, cond, List, [], ◌∷◌, ◌++◌, map, length, take, drop, get_or, set, Option, None, Some, refl, sym, ap, ◌∙◌, subst, arith, ◌⊎◌, ⊎_elim}
+use Rattle.std.specs.Str.{bytes_eq}
+use Rattle.std.specs.Ordering.{nat_cmp, eq_by_cmp}
+use Rattle.std.specs.Cmp.Lexicographic.{slice_cmp}
+use Rattle.std.proofs.lemmas.Cmp.{nat_list_cmp_total}
+use Rattle.std.proofs.lemmas.Map.Text.{is_eq-slice_cmp}
+use Rattle.std.proofs.lemmas.Bool.{cases_Bool, false≢true}
+use Rattle.std.proofs.lemmas.Option.{none-some}
+use Rattle.std.specs.FinMap.{get, find, insert, from_entries, get-from_entries, get-insert, from_entries_push, same_map, nat_cmp-IsAntisymmetric, slice_cmp-IsAntisymmetric}
+use Rattle.ooc_engine.specs.declared.catalog.NamedTable.{NamedTable}
+use Rattle.ooc_engine.specs.Catalog.{Catalog, Table}
+use Rattle.ooc_engine.specs.Named.{entry_of, tables_of, look}
+use Rattle.ooc_engine.proofs.FormLemmas.{equal_bytes, same_bytes}
+
+find-look : (ts : List NamedTable) (name : List ℕ) → find (slice_cmp nat_cmp) name (map entry_of ts) ≡ look name ts
+find-look [] name = refl
+find-look (t ∷ ts) name =
+    ap (λ b. cond b (Some t.table) (find (slice_cmp nat_cmp) name (map entry_of ts))) (is_eq-slice_cmp name t.name)
+    ∙ ap (cond (bytes_eq name t.name) (Some t.table)) (find-look ts name)
+
+pub get-look : (ts : List NamedTable) (name : List ℕ) → get (tables_of ts) name ≡ look name ts
+get-look ts name = get-from_entries nat_list_cmp_total (map entry_of ts) name ∙ find-look ts name
+
+names_apart : (k name other : List ℕ) → bytes_eq name k ≡ true → bytes_eq name other ≡ true → bytes_eq k other ≡ true
+names_apart k name other h i =
+    subst (λ (x : List ℕ). bytes_eq x other ≡ true) (equal_bytes name k h) i
+
+-- two tests, of which both hold only where a third does
+swapped : {A : Type 0} (a b c : Bool) (x y z : A) → (a ≡ true → b ≡ true → c ≡ true) → c ≡ false → cond a x (cond b y z) ≡ cond b y (cond a x z)
+swapped true true c x y z both not = absurd (false≢true (sym not ∙ both refl refl))
+swapped true false c x y z both not = refl
+swapped false true c x y z both not = refl
+swapped false false c x y z both not = refl
+
+twice : {A : Type 0} (a : Bool) (x y z : A) → cond a x z ≡ cond a x (cond a y z)
+twice true x y z = refl
+twice false x y z = refl
+
+apart_first : (b : Bool) (x : Table) (o : Option Table) → cond b (Some x) o ≡ None → (b ≡ false) × (o ≡ None)
+apart_first true x o h = absurd (none-some x (sym h))
+apart_first false x o h = (refl, h)
+
+abbrev pub renewed : List ℕ → Table → NamedTable
+renewed name table = record { name = name; table = table }
+
+-- another table in the place of the first of its name
+look-set : (ts : List NamedTable) (i : ℕ) (k : List ℕ) (v : Table) (q : List ℕ) (at : NamedTable) → i < length ts → at ≡ get_or ts i at → at.name ≡ k → look k (take i ts) ≡ None
+    → look q (set ts i (renewed k v)) ≡ cond (bytes_eq q k) (Some v) (look q ts)
+look-set [] i k v q at h is named none = absurd (omega arith)
+look-set (t ∷ ts) zero k v q at h is named none =
+    twice (bytes_eq q k) (Some v) (Some t.table) (look q ts)
+    ∙ ap (λ (n : List ℕ). cond (bytes_eq q k) (Some v) (cond (bytes_eq q n) (Some t.table) (look q ts))) (sym named ∙ ap (λ (x : NamedTable). x.name) is)
+look-set (t ∷ ts) (suc i) k v q at h is named none =
+    let apart = apart_first (bytes_eq k t.name) t.table (look k (take i ts)) none in
+    ap (cond (bytes_eq q t.name) (Some t.table)) (look-set ts i k v q at (omega arith) is named apart.1)
+    ∙ swapped (bytes_eq q t.name) (bytes_eq q k) (bytes_eq k t.name) (Some t.table) (Some v) (look q ts) (λ x y. names_apart k q t.name y x) apart.0
+
+eq_names : (q k : List ℕ) → eq_by_cmp (slice_cmp nat_cmp) q k ≡ bytes_eq q k
+eq_names q k = is_eq-slice_cmp q k
+
+pub tables-set : (ts : List NamedTable) (i : ℕ) (k : List ℕ) (v : Table) (at : NamedTable) → i < length ts → at ≡ get_or ts i at → at.name ≡ k → look k (take i ts) ≡ None
+    → tables_of (set ts i (renewed k v)) ≡ insert (tables_of ts) k v
+tables-set ts i k v at h is named none =
+    same_map nat_list_cmp_total (slice_cmp-IsAntisymmetric nat_cmp-IsAntisymmetric) _ _ (λ q.
+      get-look (set ts i (renewed k v)) q ∙ look-set ts i k v q at h is named none
+      ∙ sym (get-insert nat_list_cmp_total (tables_of ts) k v q ∙ ap (λ b. cond b (Some v) (get (tables_of ts) q)) (eq_names q k) ∙ ap (cond (bytes_eq q k) (Some v)) (get-look ts q)))
+
+map-push : (ts : List NamedTable) (t : NamedTable) → map entry_of (ts ++ t ∷ []) ≡ map entry_of ts ++ entry_of t ∷ []
+map-push [] t = refl
+map-push (u ∷ ts) t = ap (λ es. entry_of u ∷ es) (map-push ts t)
+
+pub tables-push : (ts : List NamedTable) (k : List ℕ) (v : Table) → get (tables_of ts) k ≡ None → tables_of (ts ++ renewed k v ∷ []) ≡ insert (tables_of ts) k v
+tables-push ts k v none =
+    ap from_entries (map-push ts (renewed k v))
+    ∙ from_entries_push nat_list_cmp_total (slice_cmp-IsAntisymmetric nat_cmp-IsAntisymmetric) (map entry_of ts) k v (find-look ts k ∙ sym (get-look ts k) ∙ none)
+
+-- the tables before a place, and the one at it
+pub look_at : (ts : List NamedTable) (name : List ℕ) (i : ℕ) (at : NamedTable) → i < length ts → at ≡ get_or ts i at → look name (take i ts) ≡ None → bytes_eq at.name name ≡ true → look name ts ≡ Some at.table
+look_at [] name i at h is none same = absurd (omega arith)
+look_at (t ∷ ts) name zero at h is none same =
+    let e : name ≡ t.name = sym (equal_bytes at.name name same) ∙ ap (λ (x : NamedTable). x.name) is in
+    ap (λ (n : List ℕ). cond (bytes_eq n t.name) (Some t.table) (look name ts)) e ∙ ap (λ b. cond b (Some t.table) (look name ts)) (same_bytes t.name) ∙ ap (λ (x : NamedTable). Some x.table) (sym is)
+look_at (t ∷ ts) name (suc i) at h is none same =
+    let apart = apart_first (bytes_eq name t.name) t.table (look name (take i ts)) none in
+    ap (λ b. cond b (Some t.table) (look name ts)) apart.0 ∙ look_at ts name i at (omega arith) is apart.1 same
+
+-- one table more that has another name
+pub look_passed : (ts : List NamedTable) (name : List ℕ) (i : ℕ) (at : NamedTable) → i < length ts → at ≡ get_or ts i at → look name (take i ts) ≡ None → bytes_eq at.name name ≡ false → look name (take (i + 1) ts) ≡ None
+look_passed [] name i at h is none other = absurd (omega arith)
+look_passed (t ∷ ts) name zero at h is none other =
+    let apart : bytes_eq name t.name ≡ false = ⊎_elim (λ (e : bytes_eq name t.name ≡ true). absurd (false≢true (sym other ∙ ap (λ (x : NamedTable). bytes_eq x.name name) is ∙ ap (λ n. bytes_eq n name) (sym (equal_bytes name t.name e)) ∙ same_bytes name))) (λ e. e) (cases_Bool (bytes_eq name t.name)) in
+    ap (λ b. cond b (Some t.table) None) apart
+look_passed (t ∷ ts) name (suc i) at h is none other =
+    let apart = apart_first (bytes_eq name t.name) t.table (look name (take i ts)) none in
+    let more : suc i + 1 ≡ suc (i + 1) = omega arith in
+    rw more (ap (λ b. cond b (Some t.table) (look name (take (i + 1) ts))) apart.0 ∙ look_passed ts name i at (omega arith) is apart.1 other)
