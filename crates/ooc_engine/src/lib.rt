@@ -29,7 +29,7 @@ pub use form::{Form, FormStop, parse};
 pub use lines::line_of;
 pub use opening::open_script;
 pub use reading::{ReadFailure, read_up_to};
-pub use run::run_alone;
+pub use run::run_script;
 pub use settings::{Settings, read_settings};
 pub use statement::{FileName, Filter, Names, Sign, Statement};
 pub use statements::run_statements;
