@@ -7,3 +7,6 @@ mod line;
 
 pub use length::row_length;
 pub use line::{print_header, print_row};
+
+#[cfg(test)]
+mod tests;
