@@ -9,6 +9,7 @@ use Rattle.ooc_types.specs.Meets.{IsInRange}
 use Rattle.ooc_decimal.specs.Numeric.{IsNumeric, signed, scale_of}
 use Rattle.ooc_decimal.specs.Numeral.{number_after, is_numeral, magnitude, spelled, trimmed, has_minus, without_sign, whole_of, part_of}
 use Rattle.ooc_decimal.specs.Digits.{ReadsScaled, ReadsMagnitude}
+use Rattle.ooc_decimal.specs.Read.{IsReadAs}
 use Rattle.ooc_decimal.proofs.NumberAfter.{carried}
 use Rattle.ooc_decimal.proofs.Rounding.{exact}
 use Rattle.ooc_decimal.proofs.OutOfRange.{signed_too_large}
@@ -22,20 +23,17 @@ magnitude_exact whole part scale o some few known =
     carried o (all_ascii_digits (whole ++ part)) (is_numeral (whole ++ part)) (number_after 0 (whole ++ part) * 10 ^ (scale - length part)) (magnitude whole part scale)
     (numeral_is (whole ++ part) some) (exact (number_after 0 (whole ++ part)) (length part) scale few) known
 
-abbrev Answers : SqlType → List ℕ → Option ℤ → Type 0
-Answers kind text o = MatchOption (spelled kind text) (o ≡ None) (λ digits. SomeIff o (IsInRange kind digits) digits)
-
 spelled_is : (kind : SqlType) (text body numeral whole part : List ℕ) (negative : Bool) (scale : ℕ) → body ≡ trimmed text → negative ≡ has_minus body → numeral ≡ without_sign body → whole ≡ whole_of kind numeral → part ≡ part_of kind numeral → scale ≡ scale_of kind → spelled kind text ≡ cond (is_numeral (whole ++ part)) (Some (signed negative (magnitude whole part scale))) None
 unfolding spelled
 spelled_is kind text body numeral whole part negative scale e1 e2 e3 e4 e5 e6 = rw (e4, e5, e3, e2, e1, e6) refl
 
-pub answers_some : (kind : SqlType) (text body numeral whole part : List ℕ) (negative : Bool) (scale m : ℕ) (o : Option ℤ) → body ≡ trimmed text → negative ≡ has_minus body → numeral ≡ without_sign body → whole ≡ whole_of kind numeral → part ≡ part_of kind numeral → scale ≡ scale_of kind → ReadsMagnitude whole part scale (Some m) → SomeIff o (IsInRange kind (signed negative m)) (signed negative m) → Answers kind text o
+pub answers_some : (kind : SqlType) (text body numeral whole part : List ℕ) (negative : Bool) (scale m : ℕ) (o : Option ℤ) → body ≡ trimmed text → negative ≡ has_minus body → numeral ≡ without_sign body → whole ≡ whole_of kind numeral → part ≡ part_of kind numeral → scale ≡ scale_of kind → ReadsMagnitude whole part scale (Some m) → SomeIff o (IsInRange kind (signed negative m)) (signed negative m) → IsReadAs kind text o
 answers_some kind text body numeral whole part negative scale m o e1 e2 e3 e4 e5 e6 read known =
     let is = spelled_is kind text body numeral whole part negative scale e1 e2 e3 e4 e5 e6 ∙ ap (λ t. cond t (Some (signed negative (magnitude whole part scale))) None) read.0.0 ∙ ap (λ k. Some (signed negative k)) (sym read.1) in
     let P : Option ℤ → Type 0 = λ s. MatchOption s (o ≡ None) (λ digits. SomeIff o (IsInRange kind digits) digits) in
     subst P (sym is) known
 
-pub answers_none : (kind : SqlType) (text body numeral whole part : List ℕ) (negative : Bool) (scale : ℕ) → IsNumeric kind → body ≡ trimmed text → negative ≡ has_minus body → numeral ≡ without_sign body → whole ≡ whole_of kind numeral → part ≡ part_of kind numeral → scale ≡ scale_of kind → ReadsMagnitude whole part scale None → Answers kind text None
+pub answers_none : (kind : SqlType) (text body numeral whole part : List ℕ) (negative : Bool) (scale : ℕ) → IsNumeric kind → body ≡ trimmed text → negative ≡ has_minus body → numeral ≡ without_sign body → whole ≡ whole_of kind numeral → part ≡ part_of kind numeral → scale ≡ scale_of kind → ReadsMagnitude whole part scale None → IsReadAs kind text None
 answers_none kind text body numeral whole part negative scale numeric e1 e2 e3 e4 e5 e6 none =
     let nothing : Option ℤ = None in
     let P : Option ℤ → Type 0 = λ s. MatchOption s (nothing ≡ None) (λ digits. IsInRange kind digits → ⊥) in

@@ -8,6 +8,10 @@ use Rattle.ooc_decimal.specs.Numeral.{number_after, rounded, is_numeral, magnitu
 abbrev pub ReadsOn : ℕ → List ℕ → Option ℕ → Type 0
 ReadsOn n digits outcome = SomeIff outcome ((all_ascii_digits digits ≡ true) × (number_after n digits < 2 ^ 128)) (number_after n digits)
 
+-- the same where the number surely fits
+abbrev pub ReadsNarrow : ℕ → List ℕ → Option ℕ → Type 0
+ReadsNarrow n digits outcome = SomeIff outcome (all_ascii_digits digits ≡ true) (number_after n digits)
+
 -- the number with zeros behind it
 abbrev pub ReadsScaled : List ℕ → ℕ → Option ℕ → Type 0
 ReadsScaled digits zeros outcome =

@@ -4,3 +4,4 @@ pub mod Numeric
 pub mod Exact
 pub mod Numeral
 pub mod Digits
+pub mod Read

@@ -2,8 +2,7 @@
 ghost use Rattle.std.specs.Prelude.{◌≡◌, ◌-◌, ◌*◌, ◌<◌, ◌≤◌, ◌^◌, [], ◌∷◌, true, length};
 ghost use Rattle.std.specs.Option.{SomeIff};
 ghost use Rattle.std.specs.Str.{all_ascii_digits};
-ghost use Rattle.ooc_decimal.specs.Numeral.{number_after};
-ghost use Rattle.ooc_decimal.specs.Digits.{ReadsOn};
+ghost use Rattle.ooc_decimal.specs.Digits.{ReadsNarrow, ReadsOn};
 
 use crate::powers::power_of_ten;
 
@@ -21,7 +20,7 @@ fn next_digit(value: u128, byte: u8) -> Option<u128>
 pub fn read_narrow(digits: &[u8], start: u64) -> Option<u64>
     requires few { length digits.now ≤ 18 }
     requires small { start < 10 ^ (18 - length digits.now) }
-    ensures { SomeIff result (all_ascii_digits digits.now ≡ true) (number_after start digits.now) }
+    ensures { ReadsNarrow start digits.now result }
 {
     let mut value = start;
     for byte in digits {

@@ -1,20 +1,19 @@
 //! Reading a number.
-ghost use Rattle.std.specs.Prelude.{◌≡◌, ◌≤◌, ◌<◌, ◌^◌, ◌++◌, ◌+◌, true, MatchOption, None, length};
-ghost use Rattle.std.specs.Option.{SomeIff};
-ghost use Rattle.std.specs.Str.{all_ascii_digits};
-ghost use Rattle.ooc_decimal.specs.Exact.{IsExact};
-ghost use Rattle.ooc_decimal.specs.Numeric.{IsNumeric, signed, scale_of};
-ghost use Rattle.ooc_decimal.specs.Numeral.{number_after, spelled, whole_of, part_of};
-ghost use Rattle.ooc_decimal.specs.Digits.{ReadsOn, ReadsScaled, ReadsRounded, ReadsMagnitude};
+ghost use Rattle.std.specs.Prelude.{◌≡◌, ◌≤◌, ◌<◌, ◌++◌, ◌+◌, length};
+ghost use Rattle.ooc_decimal.specs.Numeric.{IsNumeric};
+ghost use Rattle.ooc_decimal.specs.Numeral.{whole_of, part_of};
+ghost use Rattle.ooc_decimal.specs.Digits.{ReadsNarrow, ReadsOn, ReadsScaled, ReadsRounded, ReadsMagnitude};
+ghost use Rattle.ooc_decimal.specs.Read.{IsReadAs};
 
 use crate::digits::{are_digits, read_digits, read_narrow, times_power};
 use crate::range::{scale, within};
 use crate::trim::{split_sign, trim};
 use ooc_types::SqlType;
 
+// The number that the digits of both spell together, at most 18 of them.
 fn read_narrow_pair(front: &[u8], back: &[u8]) -> Option<u64>
     requires { length front.now + length back.now ≤ 18 }
-    ensures { SomeIff result (all_ascii_digits (front.now ++ back.now) ≡ true) (number_after 0 (front.now ++ back.now)) }
+    ensures { ReadsNarrow 0 (front.now ++ back.now) result }
 {
     match read_narrow(front, 0) {
         Some(value) => read_narrow(back, value),
@@ -22,7 +21,7 @@ fn read_narrow_pair(front: &[u8], back: &[u8]) -> Option<u64>
     }
 }
 
-// The number that the digits of both spell together.
+// The same for any number of digits.
 fn read_pair(front: &[u8], back: &[u8]) -> Option<u128>
     ensures { ReadsOn 0 (front.now ++ back.now) result }
 {
@@ -93,11 +92,11 @@ fn split_at_point(numeral: &[u8], kind: SqlType) -> (&[u8], &[u8])
     (numeral, &numeral[numeral.len()..])
 }
 
-/// The number that a text spells, as digits at the type's scale.
+/// The number that a text spells, as digits at the type's scale. Spaces and tabs at the ends are ignored. An integer
+/// is an optional sign and digits; a decimal may have a point, and is rounded to its scale, half away from zero.
 pub fn read_number(text: &[u8], kind: SqlType) -> Option<i128>
     requires { IsNumeric kind }
-    ensures { MatchOption (spelled kind text.now) (result ≡ None)
-        (λ digits. IsExact kind digits result) }
+    ensures { IsReadAs kind text.now result }
 {
     let (negative, numeral) = split_sign(trim(text));
     let (whole, part) = split_at_point(numeral, kind);

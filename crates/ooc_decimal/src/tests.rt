@@ -1,6 +1,9 @@
 //! Numbers as text and arithmetic, at values that were worked out by hand.
+ghost use Rattle.std.specs.Bool.{OnTrue};
+ghost use Rattle.ooc_decimal.specs.Numeric.{IsNumeric};
 
 use super::*;
+use crate::range::scale;
 use ooc_types::SqlType;
 use std::test::Fail;
 
@@ -8,8 +11,16 @@ const MOST: i128 = i128::MAX;
 
 const NINES: i128 = 99_999_999_999_999_999_999_999_999_999_999_999_999;
 
-fn decimal(width: u8, scale: u8) -> SqlType {
-    SqlType::Decimal { width, scale }
+const TENS: i128 = 10_000_000_000_000_000_000_000_000_000_000_000_000;
+
+fn is_numeric(kind: SqlType) -> bool
+    ensures { OnTrue result (IsNumeric kind) }
+{
+    match kind {
+        SqlType::Decimal { width, scale } => 1 <= width && width <= 38 && scale <= width,
+        SqlType::Integer | SqlType::BigInt | SqlType::HugeInt => true,
+        SqlType::Boolean | SqlType::Varchar => false,
+    }
 }
 
 #[test]
@@ -98,77 +109,234 @@ fn texts_are_read_as_numbers(rt: HostRuntime) {
         ("1.0", SqlType::Integer, None),
         ("1\n", SqlType::Integer, None),
         ("1x", SqlType::BigInt, None),
-        ("-0.0005", decimal(18, 3), Some(-1)),
-        ("-0.0004", decimal(18, 3), Some(0)),
-        ("0.0005", decimal(18, 3), Some(1)),
         (
-            "0.000499999999999999999999999999999999999999999999",
-            decimal(18, 3),
+            "-0.0005",
+            SqlType::Decimal {
+                width: 18,
+                scale: 3,
+            },
+            Some(-1),
+        ),
+        (
+            "-0.0004",
+            SqlType::Decimal {
+                width: 18,
+                scale: 3,
+            },
             Some(0),
         ),
-        ("1.55", decimal(18, 3), Some(1550)),
-        (".5", decimal(2, 1), Some(5)),
-        ("5.", decimal(2, 1), Some(50)),
-        (".", decimal(2, 1), None),
-        ("-.", decimal(2, 1), None),
-        ("1.2.3", decimal(9, 2), None),
-        ("0.00x", decimal(9, 1), None),
-        ("9.94", decimal(2, 1), Some(99)),
-        ("9.95", decimal(2, 1), None),
-        ("-9.95", decimal(2, 1), None),
-        ("99.5", decimal(3, 0), Some(100)),
+        (
+            "0.0005",
+            SqlType::Decimal {
+                width: 18,
+                scale: 3,
+            },
+            Some(1),
+        ),
+        (
+            "0.000499999999999999999999999999999999999999999999",
+            SqlType::Decimal {
+                width: 18,
+                scale: 3,
+            },
+            Some(0),
+        ),
+        (
+            "1.55",
+            SqlType::Decimal {
+                width: 18,
+                scale: 3,
+            },
+            Some(1550),
+        ),
+        (".5", SqlType::Decimal { width: 2, scale: 1 }, Some(5)),
+        ("5.", SqlType::Decimal { width: 2, scale: 1 }, Some(50)),
+        (".", SqlType::Decimal { width: 2, scale: 1 }, None),
+        ("-.", SqlType::Decimal { width: 2, scale: 1 }, None),
+        ("1.2.3", SqlType::Decimal { width: 9, scale: 2 }, None),
+        ("0.00x", SqlType::Decimal { width: 9, scale: 1 }, None),
+        ("9.94", SqlType::Decimal { width: 2, scale: 1 }, Some(99)),
+        ("9.95", SqlType::Decimal { width: 2, scale: 1 }, None),
+        ("-9.95", SqlType::Decimal { width: 2, scale: 1 }, None),
+        ("99.5", SqlType::Decimal { width: 3, scale: 0 }, Some(100)),
         (
             "99999999999999999999999999999999999999",
-            decimal(38, 0),
+            SqlType::Decimal {
+                width: 38,
+                scale: 0,
+            },
             Some(NINES),
         ),
         (
             "0.99999999999999999999999999999999999999",
-            decimal(38, 38),
+            SqlType::Decimal {
+                width: 38,
+                scale: 38,
+            },
             Some(NINES),
         ),
         (
             "0.999999999999999999999999999999999999999",
-            decimal(38, 38),
+            SqlType::Decimal {
+                width: 38,
+                scale: 38,
+            },
             None,
         ),
     ];
     for (text, kind, number) in cases {
+        assert!(rt; is_numeric(kind));
         assert_eq!(rt; read_number(text.as_bytes(), kind), number, "at {text}");
     }
 }
 
+// Sums of two scales, at the ends of types, and one that needs more than an `i128` on the way.
 #[test]
-fn sums_and_products_are_exact(rt: HostRuntime) {
-    assert_eq!(rt; add(105, 2, 5, 1, decimal(5, 2)), Some(155));
-    assert_eq!(rt; add(5, 1, 105, 2, decimal(5, 2)), Some(155));
-    assert_eq!(rt; sub(5, 1, 105, 2, decimal(5, 2)), Some(-55));
-    assert_eq!(rt; sub(105, 2, 5, 1, decimal(5, 2)), Some(55));
-    assert_eq!(rt; add(2_147_483_647, 0, 1, 0, SqlType::Integer), None);
-    assert_eq!(rt;
-        add(2_147_483_647, 0, 1, 0, SqlType::BigInt),
-        Some(2_147_483_648)
-    );
-    assert_eq!(rt;
-        sub(-2_147_483_647, 0, 1, 0, SqlType::Integer),
-        Some(-2_147_483_648)
-    );
-    assert_eq!(rt; add(MOST, 0, 1, 0, SqlType::HugeInt), None);
-    assert_eq!(rt; sub(-MOST, 0, 1, 0, SqlType::HugeInt), None);
-    assert_eq!(rt; sub(-1, 0, i128::MIN, 0, SqlType::HugeInt), Some(MOST));
-    assert_eq!(rt; add(NINES, 2, 1, 2, decimal(38, 2)), None);
-    // From twice ten to the power of 38, which needs more than an `i128`.
-    let tens = 10_000_000_000_000_000_000_000_000_000_000_000_000;
-    assert_eq!(rt; add(2 * tens, 0, -NINES - 1, 1, decimal(38, 1)), None);
-    assert_eq!(rt;
-        add(2 * tens, 0, -NINES - 2, 1, decimal(38, 1)),
-        Some(NINES)
-    );
-    // Both in units of a further place, and together small again.
-    assert_eq!(rt; sub(NINES, 0, NINES - 1, 0, decimal(38, 1)), Some(10));
-    assert_eq!(rt; mul(105, 2, -5, 1, decimal(8, 3)), Some(-525));
-    assert_eq!(rt; mul(MOST, 0, 2, 0, SqlType::HugeInt), None);
-    assert_eq!(rt; mul(1 << 64, 0, -(1 << 63), 0, SqlType::HugeInt), None);
+fn sums_are_exact(rt: HostRuntime) {
+    let cases: [(i128, u8, i128, u8, SqlType, Option<i128>); 8] = [
+        (
+            105,
+            2,
+            5,
+            1,
+            SqlType::Decimal { width: 5, scale: 2 },
+            Some(155),
+        ),
+        (
+            5,
+            1,
+            105,
+            2,
+            SqlType::Decimal { width: 5, scale: 2 },
+            Some(155),
+        ),
+        (2_147_483_647, 0, 1, 0, SqlType::Integer, None),
+        (2_147_483_647, 0, 1, 0, SqlType::BigInt, Some(2_147_483_648)),
+        (MOST, 0, 1, 0, SqlType::HugeInt, None),
+        (
+            NINES,
+            2,
+            1,
+            2,
+            SqlType::Decimal {
+                width: 38,
+                scale: 2,
+            },
+            None,
+        ),
+        (
+            2 * TENS,
+            0,
+            -NINES - 1,
+            1,
+            SqlType::Decimal {
+                width: 38,
+                scale: 1,
+            },
+            None,
+        ),
+        (
+            2 * TENS,
+            0,
+            -NINES - 2,
+            1,
+            SqlType::Decimal {
+                width: 38,
+                scale: 1,
+            },
+            Some(NINES),
+        ),
+    ];
+    for (a, a_scale, b, b_scale, kind, exact) in cases {
+        assert!(rt; is_numeric(kind));
+        assert!(rt; a_scale <= scale(kind) && b_scale <= scale(kind));
+        assert_eq!(rt; add(a, a_scale, b, b_scale, kind), exact, "at {a} and {b}");
+    }
+}
+
+// The last is in units of a further place, and small again.
+#[test]
+fn differences_are_exact(rt: HostRuntime) {
+    let cases: [(i128, u8, i128, u8, SqlType, Option<i128>); 6] = [
+        (
+            5,
+            1,
+            105,
+            2,
+            SqlType::Decimal { width: 5, scale: 2 },
+            Some(-55),
+        ),
+        (
+            105,
+            2,
+            5,
+            1,
+            SqlType::Decimal { width: 5, scale: 2 },
+            Some(55),
+        ),
+        (
+            -2_147_483_647,
+            0,
+            1,
+            0,
+            SqlType::Integer,
+            Some(-2_147_483_648),
+        ),
+        (-MOST, 0, 1, 0, SqlType::HugeInt, None),
+        (-1, 0, i128::MIN, 0, SqlType::HugeInt, Some(MOST)),
+        (
+            NINES,
+            0,
+            NINES - 1,
+            0,
+            SqlType::Decimal {
+                width: 38,
+                scale: 1,
+            },
+            Some(10),
+        ),
+    ];
+    for (a, a_scale, b, b_scale, kind, exact) in cases {
+        assert!(rt; is_numeric(kind));
+        assert!(rt; a_scale <= scale(kind) && b_scale <= scale(kind));
+        assert_eq!(rt; sub(a, a_scale, b, b_scale, kind), exact, "at {a} and {b}");
+    }
+}
+
+#[test]
+fn products_are_exact(rt: HostRuntime) {
+    let cases: [(i128, u8, i128, u8, SqlType, Option<i128>); 4] = [
+        (
+            105,
+            2,
+            -5,
+            1,
+            SqlType::Decimal { width: 8, scale: 3 },
+            Some(-525),
+        ),
+        (MOST, 0, 2, 0, SqlType::HugeInt, None),
+        (1 << 64, 0, -(1 << 63), 0, SqlType::HugeInt, None),
+        (
+            NINES,
+            19,
+            1,
+            19,
+            SqlType::Decimal {
+                width: 38,
+                scale: 38,
+            },
+            Some(NINES),
+        ),
+    ];
+    for (a, a_scale, b, b_scale, kind, exact) in cases {
+        assert!(rt; is_numeric(kind));
+        assert!(rt; usize::from(a_scale) + usize::from(b_scale) == usize::from(scale(kind)));
+        assert_eq!(rt; mul(a, a_scale, b, b_scale, kind), exact, "at {a} and {b}");
+    }
+}
+
+#[test]
+fn quotients_are_cut_and_remainders_have_the_sign_of_the_dividend(rt: HostRuntime) {
     assert_eq!(rt; quotient(-7, 2, SqlType::Integer), Some(-3));
     assert_eq!(rt; quotient(i128::MIN, -1, SqlType::HugeInt), None);
     assert_eq!(rt; quotient(-2_147_483_648, -1, SqlType::Integer), None);

@@ -1,9 +1,8 @@
 -- Joined fields, from the first on; and a quoted text.
-use Rattle.std.proofs.Common.{◌≡◌, ℕ, List, [], ◌∷◌, ◌++◌, map, refl, ◌∙◌, ap, append_assoc, Result, Ok, Err, OnErr}
+use Rattle.std.proofs.Common.{◌≡◌, ℕ, List, [], ◌∷◌, ◌++◌, map, refl, ◌∙◌, ap, append_assoc}
 use Rattle.std.specs.List.{flat_map}
 use Rattle.std.proofs.lemmas.List.{append-nil}
 use Rattle.result_print.specs.Printed.{joined, quoted, doubled}
-use Rattle.ooc_decimal.specs.Kept.{KeepsFront}
 
 pub from_first : {A : Type 0} (f : A → List ℕ) (x : A) (xs : List A) → f x ++ flat_map (λ v. 44 ∷ f v) xs ≡ joined (map f (x ∷ xs))
 unfolding joined
@@ -17,14 +16,3 @@ none f = refl
 pub in_quotes : (old bytes : List ℕ) → ((old ++ 34 ∷ []) ++ flat_map doubled bytes) ++ 34 ∷ [] ≡ old ++ quoted bytes
 unfolding quoted
 in_quotes old bytes = ap (λ l. l ++ 34 ∷ []) (append_assoc old (34 ∷ []) (flat_map doubled bytes)) ∙ append_assoc old (34 ∷ flat_map doubled bytes) (34 ∷ [])
-
--- what a later call keeps, an earlier one kept
-pub keeps_before : (old now new added : List ℕ) → now ≡ old ++ added → KeepsFront now new → KeepsFront old new
-keeps_before old now new added e k = record {
-  rest = added ++ k.rest;
-  front = k.front ∙ ap (λ l. l ++ k.rest) e ∙ append_assoc old added k.rest
-}
-
-pub on_err : {T E P : Type 0} (r : Result T E) → P → OnErr r P
-on_err (Ok x) p = tt
-on_err (Err e) p = p

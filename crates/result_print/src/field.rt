@@ -1,12 +1,12 @@
 //! One field of a line.
-ghost use Rattle.std.specs.Prelude.{◌≡◌, ◌++◌, OnOk, OnErr};
+ghost use Rattle.std.specs.Prelude.{◌≡◌, ◌++◌, List, ℕ, OnOk, OnErr};
 ghost use Rattle.std.specs.List.{list_any};
 ghost use Rattle.result_print.specs.Printed as spec;
-ghost use Rattle.result_print.specs.Printed.{doubled, quoted, field_text, value_text};
+ghost use Rattle.result_print.specs.Printed.{doubled, quoted, field_text, column_text, value_text};
 ghost use Rattle.ooc_decimal.specs.Kept.{KeepsFront};
 
 use ooc_decimal::print_number;
-use ooc_types::{OutOfMemory, Value};
+use ooc_types::{Column, OutOfMemory, Value};
 
 fn is_special(byte: u8) -> bool
     ensures { result ≡ spec.is_special byte }
@@ -55,8 +55,8 @@ fn push_quoted(bytes: &[u8], into: &mut Vec<u8>) -> Result<(), OutOfMemory>
     Ok(())
 }
 
-/// The text or name as a field. A failed call leaves a part of it at most.
-pub fn push_field(bytes: &[u8], into: &mut Vec<u8>) -> Result<(), OutOfMemory>
+// The text or name as a field.
+fn push_field(bytes: &[u8], into: &mut Vec<u8>) -> Result<(), OutOfMemory>
     ensures ok { OnOk result (into.new.items ≡ into.old.items ++ field_text bytes.now) }
     ensures err { OnErr result (KeepsFront into.old.items into.new.items) }
 {
@@ -67,24 +67,42 @@ pub fn push_field(bytes: &[u8], into: &mut Vec<u8>) -> Result<(), OutOfMemory>
     Ok(())
 }
 
-/// The value as a field. A failed call leaves a part of it at most.
-pub fn push_value(value: &Value, into: &mut Vec<u8>) -> Result<(), OutOfMemory>
-    ensures ok { OnOk result (into.new.items ≡ into.old.items ++ value_text value.now) }
-    ensures err { OnErr result (KeepsFront into.old.items into.new.items) }
-{
-    match value {
-        Value::Number { digits, scale } => print_number(*digits, *scale, into),
-        Value::Text(text) => push_field(text.as_bytes(), into),
-        Value::Null => push_word(b"NULL", into),
-        Value::Truth(true) => push_word(b"true", into),
-        Value::Truth(false) => push_word(b"false", into),
-    }
-}
-
 fn push_word(word: &[u8], into: &mut Vec<u8>) -> Result<(), OutOfMemory>
     ensures ok { OnOk result (into.new.items ≡ into.old.items ++ word.now) }
     ensures err { OnErr result (KeepsFront into.old.items into.new.items) }
 {
     into.extend_from_slice(word)?;
     Ok(())
+}
+
+/// What stands between the commas of a line.
+pub trait Field {
+    ghost text: { Self → List ℕ };
+
+    /// Appends the field. A failed call leaves a part of it at most.
+    fn push_to(&self, into: &mut Vec<u8>) -> Result<(), OutOfMemory>
+        ensures ok { OnOk result (into.new.items ≡ into.old.items ++ text self.now) }
+        ensures err { OnErr result (KeepsFront into.old.items into.new.items) };
+}
+
+impl Field for Value {
+    ghost text = { value_text };
+
+    fn push_to(&self, into: &mut Vec<u8>) -> Result<(), OutOfMemory> {
+        match self {
+            Value::Number { digits, scale } => print_number(*digits, *scale, into),
+            Value::Text(text) => push_field(text.as_bytes(), into),
+            Value::Null => push_word(b"NULL", into),
+            Value::Truth(true) => push_word(b"true", into),
+            Value::Truth(false) => push_word(b"false", into),
+        }
+    }
+}
+
+impl Field for Column {
+    ghost text = { column_text };
+
+    fn push_to(&self, into: &mut Vec<u8>) -> Result<(), OutOfMemory> {
+        push_field(self.name.as_bytes(), into)
+    }
 }

@@ -8,3 +8,6 @@ mod line;
 pub use field::push_field;
 pub use length::row_length;
 pub use line::{print_header, print_row};
+
+#[cfg(test)]
+mod tests;
