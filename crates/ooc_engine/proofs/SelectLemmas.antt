@@ -6,6 +6,8 @@ use Rattle.std.specs.Str.{bytes_eq}
 use Rattle.std.proofs.lemmas.List.{get_or-map, take_more, flat_map_more, map-append}
 use Rattle.std.proofs.lemmas.List.Concat.{flat_map-append}
 use Rattle.std.proofs.lemmas.List.FromFn.{get_or-map-range_with_len, length-map-range_with_len}
+use Rattle.std.proofs.lemmas.Bool.{and_parts, true_from_ne_false, false≢true}
+use Rattle.std.proofs.lemmas.List.Folds.{list_all_at}
 use Rattle.std.proofs.lemmas.Slice.Eq.{bytes_eq-Decides}
 use Rattle.row_image.specs.declared.layout.CellKind.{CellKind}
 use Rattle.row_image.specs.Image.{row_count, rows_of, stored_row, stored_cell}
@@ -21,10 +23,6 @@ use Rattle.ooc_engine.specs.ScriptText.{has_column, has_integer, have_columns, i
 use Rattle.ooc_engine.specs.Selected.{kept_line, cell_text}
 use Rattle.ooc_engine.specs.Stored.{cell_value, stored_values, rows_in}
 use Rattle.ooc_engine.proofs.TableLemmas.{rows_of_none}
-
-either : (a b : Bool) → (a && b) ≡ true → (a ≡ true) × (b ≡ true)
-either true b h = (refl, h)
-either false b h = cc
 
 -- the cells of a stored row
 
@@ -111,7 +109,7 @@ place_within (column ∷ columns) name h =
 
 pub places_within : (columns : List Column) (names : List (List ℕ)) → have_columns columns names ≡ true → All (λ place. place < length columns) (map (place_of columns) names)
 places_within columns [] h = tt
-places_within columns (name ∷ names) h = let p = either _ _ h in (place_within columns name p.0, places_within columns names p.1)
+places_within columns (name ∷ names) h = let p = and_parts _ _ h in (place_within columns name p.0, places_within columns names p.1)
 
 any_of : (same integer rest others : Bool) → (rest ≡ true → others ≡ true) → ((same && integer) || rest) ≡ true → (same || others) ≡ true
 any_of true integer rest others h is = refl
@@ -120,6 +118,9 @@ any_of false integer rest others h is = h is
 pub integer_is_column : (columns : List Column) (name : List ℕ) → has_integer columns name ≡ true → has_column columns name ≡ true
 integer_is_column [] name h = h
 integer_is_column (column ∷ columns) name h = any_of (bytes_eq column.name name) (is_integer column.kind) (has_integer columns name) (has_column columns name) (integer_is_column columns name) h
+
+pub has_each : (columns : List Column) (names : List (List ℕ)) (i : ℕ) (d : List ℕ) → have_columns columns names ≡ true → i < length names → has_column columns (get_or names i d) ≡ true
+has_each columns names i d all within = true_from_ne_false _ (λ no. false≢true (sym (list_all_at (has_column columns) names i d within no) ∙ all))
 
 -- the columns of names
 
@@ -146,7 +147,7 @@ one_column (column ∷ columns) name h = column_at columns column name (place_of
 pub names_are : (columns : List Column) (names : List (List ℕ)) → have_columns columns names ≡ true → map column_text (picked_columns columns names) ≡ map field_text names
 names_are columns [] h = refl
 names_are columns (name ∷ names) h =
-    let p = either _ _ h in
+    let p = and_parts _ _ h in
     map-append column_text (slice_range columns (place_of columns name) (place_of columns name + 1)) (picked_columns columns names)
     ∙ ap (λ l. l ++ map column_text (picked_columns columns names)) (one_column columns name p.0) ∙ ap (λ l. field_text name ∷ l) (names_are columns names p.1)
 
