@@ -1,6 +1,6 @@
 -- The cells of a row of the form meet their columns.
-use Rattle.std.proofs.Common.{◌≡◌, ℕ, zero, suc, ◌+◌, ◌-◌, ◌*◌, ◌<◌, ◌≤◌, Bool, true, false, List, [], ◌∷◌, length, map, get_or, Option, None, Some, refl, sym, ap, ◌∙◌, subst, arith}
-use Rattle.std.specs.Prelude.{ℤ, pos, option_map, option_and_then, IsTrue, ◌&&◌, ◌||◌, if◌then◌else◌, fold}
+use Rattle.std.proofs.Common.{◌≡◌, ℕ, zero, suc, ◌+◌, ◌-◌, ◌*◌, ◌<◌, ◌≤◌, Bool, true, false, List, [], ◌∷◌, length, get_or, Option, None, Some, refl, ap, ◌∙◌, arith}
+use Rattle.std.specs.Prelude.{pos, option_map, option_and_then, ◌||◌, if◌then◌else◌, fold}
 use Rattle.std.specs.List.{list_all}
 use Rattle.std.specs.Int.{w32}
 use Rattle.std.proofs.lemmas.Bool.{and_parts, leb-true}
@@ -36,7 +36,7 @@ more_tens (suc n) zero h = absurd (omega arith)
 more_tens (suc n) (suc m) h = omega (arith, more_tens n m (omega arith))
 
 digit_value : (byte : ℕ) → is_digit byte ≡ true → byte - 48 ≤ 9
-digit_value byte h = let most = leb-true byte 57 (and_parts _ _ h).1 in omega arith
+digit_value byte h = let most : byte ≤ 57 = leb-true byte 57 (and_parts _ _ h).1 in omega arith
 
 small_number : (digits : List ℕ) (n bound : ℕ) → list_all is_digit digits ≡ true → n < bound → fold (λ n byte. n * 10 + (byte - 48)) n digits < bound * tens (length digits)
 small_number [] n bound all small = omega arith

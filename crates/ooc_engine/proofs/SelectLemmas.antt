@@ -1,7 +1,7 @@
 -- What a select prints, row by row.
 use Rattle.std.proofs.Common.{◌≡◌, ℕ, zero, suc, ◌+◌, ◌-◌, ◌<◌, ◌≤◌, Bool, true, false, cond, List, [], ◌∷◌, ◌++◌, length, map, get_or, take, drop, refl, sym, ap, ◌∙◌, arith, add-one, append_assoc, append-nil, take_all}
-use Rattle.std.specs.Prelude.{All, IsTrue, ◌&&◌, ◌||◌}
-use Rattle.std.specs.List.{flat_map, filter, list_any, list_all, range_with_len, slice_range}
+use Rattle.std.specs.Prelude.{All, ◌&&◌, ◌||◌}
+use Rattle.std.specs.List.{flat_map, filter, range_with_len, slice_range}
 use Rattle.std.specs.Str.{bytes_eq}
 use Rattle.std.proofs.lemmas.List.{get_or-map, take_more, flat_map_more, map-append, length-map}
 use Rattle.std.proofs.lemmas.List.Concat.{flat_map-append}
@@ -18,7 +18,7 @@ use Rattle.result_print.specs.Printed.{block_text, header_text, row_text, line_t
 use Rattle.ooc_engine.specs.declared.select.Test.{Test}
 use Rattle.ooc_engine.specs.declared.statement.Filter.{Filter}
 use Rattle.ooc_engine.specs.Catalog.{Table}
-use Rattle.ooc_engine.specs.Meaning.{place_of, value_at, passes, picked_row, picked_columns, picked_rows, kept_rows}
+use Rattle.ooc_engine.specs.Meaning.{place_of, value_at, passes, picked_row, picked_columns, picked_rows}
 use Rattle.ooc_engine.specs.ScriptText.{has_column, has_integer, have_columns, is_integer}
 use Rattle.ooc_engine.specs.Selected.{kept_line, cell_text}
 use Rattle.ooc_engine.specs.Stored.{cell_value, stored_values, rows_in}

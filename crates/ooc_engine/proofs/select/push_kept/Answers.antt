@@ -13,12 +13,12 @@ pub returns-in_ok-push_row : goal.returns-in_ok-push_row
 returns-in_ok-push_row c =
     let test = c.args.test.now in
     let passed : passes test.sign test.number (cell_value (stored_cell c.args.layout.now c.args.page.now c.args.row test.place)) ≡ true =
-        ap (λ cell. passes test.sign test.number (cell_value cell)) (sym c.read_cell.ensures) ∙ sym c.passes.ensures ∙ c.if-passes.true in
+    ap (λ cell. passes test.sign test.number (cell_value cell)) (sym c.read_cell.ensures) ∙ sym c.passes.ensures ∙ c.if-passes.true in
     rw (kept_is test c.args.picked.now c.args.layout.now c.args.page.now c.args.row c.requires.place c.requires.places passed) c.in_ok-push_row.ensures
 
 pub returns-else-passes : goal.returns-else-passes
 returns-else-passes c =
     let test = c.args.test.now in
     let passed : passes test.sign test.number (cell_value (stored_cell c.args.layout.now c.args.page.now c.args.row test.place)) ≡ false =
-        ap (λ cell. passes test.sign test.number (cell_value cell)) (sym c.read_cell.ensures) ∙ sym c.passes.ensures ∙ c.if-passes.false in
+    ap (λ cell. passes test.sign test.number (cell_value cell)) (sym c.read_cell.ensures) ∙ sym c.passes.ensures ∙ c.if-passes.false in
     rw (left_out test c.args.picked.now c.args.layout.now c.args.page.now c.args.row c.requires.place c.requires.places passed) (sym (append-nil _))

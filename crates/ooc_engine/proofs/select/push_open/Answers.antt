@@ -1,4 +1,4 @@
-use Rattle.std.proofs.Common.{◌≡◌, length, sym, ◌∙◌, append-nil, refl}
+use Rattle.std.proofs.Common.{◌≡◌, length, sym, ◌∙◌, append-nil}
 use Rattle.std.proofs.lemmas.Bool.{eqb-true}
 use Rattle.ooc_engine.proofs.SelectLemmas.{no_page, one_page}
 use Rattle.ooc_engine.proofs.select.push_open.Goals as goal

@@ -1,4 +1,4 @@
-use Rattle.std.proofs.Common.{◌++◌, ap, sym, arith, ◌∙◌, map}
+use Rattle.std.proofs.Common.{◌++◌, ap, ◌∙◌, map}
 use Rattle.std.specs.List.{flat_map}
 use Rattle.row_image.specs.Image.{rows_of}
 use Rattle.ooc_engine.specs.Selected.{kept_line}
