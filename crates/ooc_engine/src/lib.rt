@@ -35,3 +35,6 @@ pub use statement::{FileName, Filter, Names, Sign, Statement};
 pub use statements::run_statements;
 pub use status::{Place, Refusal, Status, UsageFault};
 pub use writing::write_all;
+
+#[cfg(test)]
+mod tests;

@@ -1,0 +1,1 @@
+CREATE TABLE t (id INTEGER, name VARCHAR); COPY t FROM 't.csv'; SELECT name FROM t WHERE id = 2;

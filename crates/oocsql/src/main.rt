@@ -1,0 +1,26 @@
+//! The program: `oocsql SCRIPT` runs a script over CSV files of the current folder, and prints each query's result.
+//!
+//! What it does with the words, the files and the output that it is handed is proved in `ooc_engine`. Here are the real
+//! files and the standard output, of whose contents nothing is told.
+#![tactic(auto)]
+
+mod command;
+mod real_files;
+mod real_sink;
+
+pub use command::run;
+pub use real_files::RealFiles;
+pub use real_sink::RealSink;
+
+use std::env;
+use std::process::ExitCode;
+
+fn main(rt: HostRuntime) -> ExitCode {
+    let mut files = RealFiles::new_files(&rt);
+    let mut out = RealSink::new_sink(&rt);
+    let status = run(&rt, rt.alloc(), env::args(&rt), &mut files, &mut out);
+    ExitCode::from(status.code())
+}
+
+#[cfg(test)]
+mod tests;

@@ -1,0 +1,96 @@
+//! The real files.
+ghost use Rattle.std.specs.Prelude.{◌≡◌, ◌≢◌, ◌≤◌, ◌<◌, ◌↔◌, None, IfOk, IsTrue, is_some, length};
+ghost use Rattle.std.specs.IoError.{error_kind};
+ghost use Rattle.std.specs.Io.KnownBytes.{ReadConsumes};
+ghost use Rattle.ooc_io.specs.Counts.{HasCause};
+ghost use Rattle.ooc_io.specs.Opens.{Opens, HasOpenCause};
+
+use ooc_io::{Files, FilesFailed, OpenFault};
+use std::fs;
+use std::io::{Error, ErrorKind, Read};
+
+/// The files of the system, by paths that are relative to the current folder. They tell no content.
+#[derive(Drop)]
+pub struct RealFiles<'a, R: std::rt::Files> {
+    rt: &'a R,
+    file: Option<R::File>,
+    faults: u64,
+}
+
+impl<'a, R: std::rt::Files> RealFiles<'a, R> {
+    /// Files of which none is open.
+    pub fn new_files(rt: &'a R) -> RealFiles<'a, R>
+        ensures closed { result.file ≡ None }
+        ensures faults { result.faults ≡ 0 }
+    {
+        RealFiles {
+            rt,
+            file: None,
+            faults: 0,
+        }
+    }
+
+    /// How often a call failed.
+    pub fn fault_count(&self) -> u64
+        ensures { result ≡ self.now.faults }
+    {
+        self.faults
+    }
+}
+
+// A file is missing where the system says that it isn't found, and nowhere else.
+fn is_missing(error: &Error) -> bool
+    ensures { IsTrue result ↔ error_kind error.now ≡ ErrorKind.NotFound }
+{
+    error.kind() == ErrorKind::NotFound
+}
+
+// Reads some bytes, again where a signal interrupts the call.
+fn read_some<F: Read>(file: &mut F, piece: &mut [u8]) -> Result<usize, Error>
+    ensures bound { IfOk result (λ n. n ≤ length piece.new) }
+{
+    for _ in 0..u64::MAX {
+        match file.read(piece) {
+            Err(error) if error.kind() == ErrorKind::Interrupted => {}
+            result => return result,
+        }
+    }
+    Err(Error::from(ErrorKind::TimedOut))
+}
+
+impl<'a, R: std::rt::Files> Files for RealFiles<'a, R> {
+    ghost holds = { λ f. None };
+
+    ghost is_open = { λ f. is_some f.file };
+
+    ghost left = { λ f. None };
+
+    ghost faults = { λ f. f.faults };
+
+    fn open(&mut self, name: &str) -> Result<(), OpenFault> {
+        self.file = None;
+        match fs::open(self.rt, name) {
+            Ok(file) => {
+                self.file = Some(file);
+                Ok(())
+            }
+            Err(error) => {
+                if is_missing(&error) {
+                    return Err(OpenFault::Missing);
+                }
+                self.faults = self.faults.saturating_add(1);
+                Err(OpenFault::Failed)
+            }
+        }
+    }
+
+    fn read(&mut self, piece: &mut [u8]) -> Result<usize, FilesFailed> {
+        if let Some(file) = &mut self.file {
+            if let Ok(count) = read_some(file, piece) {
+                return Ok(count);
+            }
+        }
+        self.faults = self.faults.saturating_add(1);
+        Err(FilesFailed)
+    }
+}
