@@ -10,3 +10,5 @@ pub mod CellRuleLemmas
 pub mod GrownLemmas
 pub mod WrittenLemmas
 pub mod WrittenAccepted
+pub mod MoveLemmas
+pub mod Rebased

@@ -124,7 +124,7 @@ parts_after kinds old new cells hash heap w s is room =
       | inr none ↦ parts_after_none kinds old new cells hash heap w s none
     ]
 
-old_cell : (kinds : List CellKind) (old new : List ℕ) (row column : ℕ) → KeepsHeap (part_for old row) (part_for new row) → SameOn old new (row_place kinds row) (row_place kinds row + width_of kinds) → row_place kinds row + width_of kinds ≤ length old → column < length kinds → first_damage (cell_rules kinds old row column) ≡ None → first_damage (cell_rules kinds new row column) ≡ None
+pub old_cell : (kinds : List CellKind) (old new : List ℕ) (row column : ℕ) → KeepsHeap (part_for old row) (part_for new row) → SameOn old new (row_place kinds row) (row_place kinds row + width_of kinds) → row_place kinds row + width_of kinds ≤ length old → column < length kinds → first_damage (cell_rules kinds old row column) ≡ None → first_damage (cell_rules kinds new row column) ≡ None
 unfolding cell_rules
 old_cell kinds old new row column keeps h fits inside sound =
     let at = row_place kinds row in

@@ -10,11 +10,14 @@ mod layout;
 mod parts;
 mod put;
 mod read;
+mod moves;
 mod write;
 
 pub use cell::{Cell, CellIn};
 pub use check::{check_image, text_limit};
 pub use image::{Damage, DamageField, ImageKind, Part, RowPut, Shape};
 pub use layout::{CellKind, Layout};
+pub use moves::rebase;
+pub use parts::{part_count, part_of};
 pub use read::{read_cell, row_count, row_hash_of};
 pub use write::{new_rows, write_row};

@@ -46,6 +46,7 @@ pub fn write_row(
 
     ensures accepted { IsAccepted (Rows layout.now) image.new }
     ensures rows { result ≡ RowPut.Wrote → rows_of layout.now image.new ≡ rows_of layout.now image.old ++ given_row cells.now hash ∷ [] }
+    ensures bytes { result ≡ RowPut.Wrote → StoresRow layout.now image.new (row_place layout.now (row_count image.old)) cells.now hash }
     ensures parts { result ≡ RowPut.Wrote → parts_of image.new ≡ (if has_texts layout.now then parts_with (parts_of image.old) (row_count image.old) (wanted cells.now heap) else parts_of image.old) }
 
     ensures page_full { (result ≡ RowPut.PageFull) ↔ (row_count image.old ≡ rows_that_fit layout.now (length image.old)) }

@@ -58,3 +58,7 @@ returns-clause-rows c = λ _.
 pub returns-clause-parts : goal.returns-clause-parts
 returns-clause-parts c = λ _.
     (written_of c.args.layout.now c.args.image.now c.count_in_parts.new.image c.append.new.image c.args.cells.now c.args.hash c.args.heap c.wanted.result c.wanted.ensures (omega arith) (omega arith) c.count_in_parts.ensures.others (c.count_in_parts.ensures.put c.if-not-count_in_parts.false) c.count_in_parts.ensures.few c.append.ensures.count c.append.ensures.row c.append.ensures.kind c.append.ensures.parts).parts
+
+pub returns-clause-bytes : goal.returns-clause-bytes
+returns-clause-bytes c = λ _.
+    (written_of c.args.layout.now c.args.image.now c.count_in_parts.new.image c.append.new.image c.args.cells.now c.args.hash c.args.heap c.wanted.result c.wanted.ensures (omega arith) (omega arith) c.count_in_parts.ensures.others (c.count_in_parts.ensures.put c.if-not-count_in_parts.false) c.count_in_parts.ensures.few c.append.ensures.count c.append.ensures.row c.append.ensures.kind c.append.ensures.parts).row
