@@ -12,3 +12,5 @@ pub mod WrittenLemmas
 pub mod WrittenAccepted
 pub mod MoveLemmas
 pub mod Rebased
+pub mod RebasedAccepted
+pub mod FlatLemmas

@@ -36,7 +36,7 @@ pub record Rebased (kinds : List CellKind) (old new : List ℕ) (part to : ℕ) 
   pub rows : (row : ℕ) → (part_at old part).first ≤ row → row < (part_at old part).first + (part_at old part).rows → MovesRow kinds old new (row_place kinds row) (part_at old part).base to
   pub base : number_at new (48 + 24 * part) 8 ≡ to
 
-row_place_mono : (kinds : List CellKind) (row other : ℕ) → row ≤ other → row_place kinds row ≤ row_place kinds other
+pub row_place_mono : (kinds : List CellKind) (row other : ℕ) → row ≤ other → row_place kinds row ≤ row_place kinds other
 row_place_mono kinds row other h =
     elim (cases_eq row other) [
       inl e ↦ omega (arith, ap (row_place kinds) e)
@@ -44,7 +44,7 @@ row_place_mono kinds row other h =
     ]
 
 -- an address of a part's row is not below its base, and not far above it
-long_fits : (kinds : List CellKind) (image : List ℕ) (row column : ℕ) → first_damage (cell_rules kinds image row column) ≡ None → is_long_in kinds image (row_place kinds row) column ≡ true → (12 < number_at image (row_place kinds row + offset_of kinds column) 4) × (number_at image (row_place kinds row + offset_of kinds column) 4 ≤ text_limit (length image)) × AddressFits (length image) (number_at image (row_place kinds row + offset_of kinds column) 4) (number_at image (row_place kinds row + offset_of kinds column + 8) 8) (part_for image row)
+pub long_fits : (kinds : List CellKind) (image : List ℕ) (row column : ℕ) → first_damage (cell_rules kinds image row column) ≡ None → is_long_in kinds image (row_place kinds row) column ≡ true → (12 < number_at image (row_place kinds row + offset_of kinds column) 4) × (number_at image (row_place kinds row + offset_of kinds column) 4 ≤ text_limit (length image)) × AddressFits (length image) (number_at image (row_place kinds row + offset_of kinds column) 4) (number_at image (row_place kinds row + offset_of kinds column + 8) 8) (part_for image row)
 unfolding cell_rules is_long_in
 long_fits kinds image row column h long =
     let at = row_place kinds row in
