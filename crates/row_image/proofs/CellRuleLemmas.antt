@@ -155,7 +155,7 @@ address_fits page size address part h =
     record {
       heap = λ e. eqb-false part.heap no_heap (not-true (eqb part.heap no_heap) both.0) e;
       low = leb-true _ _ ends.0;
-      high = leb-true _ _ ends.1
+      high = leb-true _ _ ends.1;
     }
 
 pub address_holds : (page size address : ℕ) (part : Part) → AddressFits page size address part → (address_rule page size address part).holds ≡ true
@@ -170,9 +170,10 @@ long_rules image at part long h =
     let size = number_at image at 4 in
     let first = sound_cons (size_rule (length image) size) (text_rule image at size part ∷ []) h in
     let second = sound_cons (text_rule image at size part) [] first.1 in
-    let fails : leb size 12 ≡ false = lt-leb size 12 long in
-    (leb-true size (text_limit (length image)) first.0,
-    address_fits (length image) size (number_at image (at + 8) 8) part (sym (ap (λ b. (cond b (pad_rule (slice_range image (at + 4 + size) (at + 16))) (address_rule (length image) size (number_at image (at + 8) 8) part)).holds) fails) ∙ second.0))
+    let fails : leb size 12 ≡ false = lt-leb size 12 long in (
+      leb-true size (text_limit (length image)) first.0,
+      address_fits (length image) size (number_at image (at + 8) 8) part (sym (ap (λ b. (cond b (pad_rule (slice_range image (at + 4 + size) (at + 16))) (address_rule (length image) size (number_at image (at + 8) 8) part)).holds) fails) ∙ second.0),
+    )
 
 pub rules_long : (image : List ℕ) (at : ℕ) (part : Part) → 12 < number_at image at 4 → number_at image at 4 ≤ text_limit (length image) → AddressFits (length image) (number_at image at 4) (number_at image (at + 8) 8) part → first_damage (kind_rules Text image at part) ≡ None
 unfolding kind_rules

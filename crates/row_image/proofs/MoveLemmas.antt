@@ -39,10 +39,10 @@ is_long_same kinds old new at column mask cell inside =
     let place = at + offset_of kinds column in
     let byte = mask.same (at + column / 8) (omega arith) (omega (arith, mask_holds kinds column inside)) in
     let sizes : (is_text kind && nat_lt 12 (number_at new place 4)) ≡ (is_text kind && nat_lt 12 (number_at old place 4)) =
-        elim (cases_Bool (is_text kind)) [
-          inl text ↦ ap (λ n. is_text kind && nat_lt 12 n) (number_at_same old new place (place + cell_width kind) cell place 4 (omega arith) (omega (arith, ap cell_width (text_kind kind text))))
-        | inr other ↦ ap (λ b. b && nat_lt 12 (number_at new place 4)) other ∙ sym (ap (λ b. b && nat_lt 12 (number_at old place 4)) other)
-        ] in
+    elim (cases_Bool (is_text kind)) [
+      | inl text ↦ ap (λ n. is_text kind && nat_lt 12 n) (number_at_same old new place (place + cell_width kind) cell place 4 (omega arith) (omega (arith, ap cell_width (text_kind kind text))))
+      | inr other ↦ ap (λ b. b && nat_lt 12 (number_at new place 4)) other ∙ sym (ap (λ b. b && nat_lt 12 (number_at old place 4)) other)
+    ] in
     ap (λ b. not (null_of b) && (is_text kind && nat_lt 12 (number_at new place 4))) byte ∙ ap (λ s. not (is_null old at column) && s) sizes
   where
     null_of : ℕ → Bool
@@ -55,7 +55,7 @@ moves_then kinds a b c at from to column m h =
     record {
       other = λ short k low high. h.same k low high ∙ m.other short k low high;
       size = λ long k low high. h.same k low (omega (arith, wide long)) ∙ m.size long k low high;
-      address = λ long. number_at_same b c (at + offset_of kinds column) (at + offset_of kinds column + cell_width (get_or kinds column Bit)) h (at + offset_of kinds column + 8) 8 (omega arith) (omega (arith, wide long)) ∙ m.address long
+      address = λ long. number_at_same b c (at + offset_of kinds column) (at + offset_of kinds column + cell_width (get_or kinds column Bit)) h (at + offset_of kinds column + 8) 8 (omega arith) (omega (arith, wide long)) ∙ m.address long;
     }
 
 -- a write elsewhere, before a cell moved
@@ -66,30 +66,30 @@ then_moves kinds a b c at from to column mask h inside m =
     record {
       other = λ short k low high. m.other (same ∙ short) k low high ∙ h.same k low high;
       size = λ long k low high. m.size (same ∙ long) k low high ∙ h.same k low (omega (arith, wide long));
-      address = λ long. m.address (same ∙ long) ∙ ap (λ n. n - from + to) (number_at_same a b (at + offset_of kinds column) (at + offset_of kinds column + cell_width (get_or kinds column Bit)) h (at + offset_of kinds column + 8) 8 (omega arith) (omega (arith, wide long)))
+      address = λ long. m.address (same ∙ long) ∙ ap (λ n. n - from + to) (number_at_same a b (at + offset_of kinds column) (at + offset_of kinds column + cell_width (get_or kinds column Bit)) h (at + offset_of kinds column + 8) 8 (omega arith) (omega (arith, wide long)));
     }
 
-cell_of_row : (kinds : List CellKind) (old new : List ℕ) (at column : ℕ) → SameOn old new at (at + width_of kinds) → column < length kinds → SameOn old new (at + offset_of kinds column) (at + offset_of kinds column + cell_width (get_or kinds column Bit))
+pub cell_of_row : (kinds : List CellKind) (old new : List ℕ) (at column : ℕ) → SameOn old new at (at + width_of kinds) → column < length kinds → SameOn old new (at + offset_of kinds column) (at + offset_of kinds column + cell_width (get_or kinds column Bit))
 cell_of_row kinds old new at column h inside = same_within old new at (at + width_of kinds) (at + offset_of kinds column) (at + offset_of kinds column + cell_width (get_or kinds column Bit)) h (omega arith) (omega (arith, cell_ends kinds column inside))
 
 pub row_moves_then : (kinds : List CellKind) (a b c : List ℕ) (at from to : ℕ) → MovesRow kinds a b at from to → SameOn b c at (at + width_of kinds) → MovesRow kinds a c at from to
 row_moves_then kinds a b c at from to m h = record {
   head = λ k low high. h.same k low (omega (arith, width_of_least kinds)) ∙ m.head k low high;
-  cells = λ column inside. moves_then kinds a b c at from to column (m.cells column inside) (cell_of_row kinds b c at column h inside)
+  cells = λ column inside. moves_then kinds a b c at from to column (m.cells column inside) (cell_of_row kinds b c at column h inside);
 }
 
 pub then_row_moves : (kinds : List CellKind) (a b c : List ℕ) (at from to : ℕ) → SameOn a b at (at + width_of kinds) → MovesRow kinds b c at from to → MovesRow kinds a c at from to
 then_row_moves kinds a b c at from to h m = record {
   head = λ k low high. m.head k low high ∙ h.same k low (omega (arith, width_of_least kinds));
-  cells = λ column inside. then_moves kinds a b c at from to column (same_within a b at (at + width_of kinds) at (at + mask_bytes kinds) h (omega arith) (omega (arith, width_of_least kinds))) (cell_of_row kinds a b at column h inside) inside (m.cells column inside)
+  cells = λ column inside. then_moves kinds a b c at from to column (same_within a b at (at + width_of kinds) at (at + mask_bytes kinds) h (omega arith) (omega (arith, width_of_least kinds))) (cell_of_row kinds a b at column h inside) inside (m.cells column inside);
 }
 
 pub reached_same : (kinds : List CellKind) (old new : List ℕ) (at base column : ℕ) → SameOn old new at (at + mask_bytes kinds) → SameOn old new (at + offset_of kinds column) (at + offset_of kinds column + cell_width (get_or kinds column Bit)) → column < length kinds → IsReached kinds old at base column → IsReached kinds new at base column
 reached_same kinds old new at base column mask h inside r =
     let same = is_long_same kinds old new at column mask h inside in
     let number : is_long_in kinds old at column ≡ true → number_at new (at + offset_of kinds column + 8) 8 ≡ number_at old (at + offset_of kinds column + 8) 8 =
-        λ long. number_at_same old new (at + offset_of kinds column) (at + offset_of kinds column + cell_width (get_or kinds column Bit)) h (at + offset_of kinds column + 8) 8 (omega arith) (omega (arith, ap cell_width (long_kind kinds old at column long))) in
+    λ long. number_at_same old new (at + offset_of kinds column) (at + offset_of kinds column + cell_width (get_or kinds column Bit)) h (at + offset_of kinds column + 8) 8 (omega arith) (omega (arith, ap cell_width (long_kind kinds old at column long))) in
     record {
       low = λ long. let was = sym same ∙ long in omega (arith, r.low was, number was);
-      high = λ long. let was = sym same ∙ long in omega (arith, r.high was, number was)
+      high = λ long. let was = sym same ∙ long in omega (arith, r.high was, number was);
     }

@@ -4,28 +4,28 @@ use Rattle.std.specs.Prelude.{◌&&◌, slice_index, slice_range}
 use Rattle.std.specs.List.{range_with_len, flat_map}
 use Rattle.std.proofs.lemmas.Bool.{eqb-true, eq-eqb, ne_eqb, lt-ltb, le-ltb, ltb-true, ltb-false, not-true, not-false, and_from, and_parts, cases_eq, cases_lt, cases_order, cases_Bool, false≢true}
 use Rattle.std.proofs.lemmas.Grind.{same_number_lists}
-use Rattle.std.proofs.lemmas.List.{length-drop, get_or-drop}
+use Rattle.std.proofs.lemmas.List.{same_lists, length-set, get_or-set_same, get_or-set_other}
 use Rattle.row_image.specs.declared.layout.CellKind.{CellKind}
 use Rattle.row_image.specs.declared.layout.CellKind.TheVariants.{Bit, Text}
 use Rattle.row_image.specs.declared.image.Part.{Part}
 use Rattle.row_image.specs.declared.image.ImageKind.TheVariants.{Rows}
-use Rattle.row_image.specs.Bytes.{number_at, number_bytes}
+use Rattle.row_image.specs.Bytes.{number_at, number_bytes, ChangesOnly}
 use Rattle.row_image.specs.Layout.{cell_width, is_text, mask_bytes, offset_of, width_of, rows_that_fit, row_place}
 use Rattle.row_image.specs.Image.{row_count, part_count, is_null, part_at, parts_of, part_for, part_place, no_heap}
 use Rattle.row_image.specs.Rules.{first_damage, text_limit, kind_rules, cell_rules, part_rules, rows_before, needs_parts, IsAccepted}
 use Rattle.row_image.specs.Flat.{is_long_in, flat_cell, flat_row, flat_part, flat}
 use Rattle.row_image.specs.Moves.{based, MovesCell, MovesRow, IsReached}
-use Rattle.row_image.proofs.ByteLemmas.{SameOn, number_at_same, slice_range_same, same_within}
+use Rattle.row_image.proofs.ByteLemmas.{SameOn, number_at_same, slice_range_same, same_within, same_after}
 use Rattle.row_image.proofs.LayoutLemmas.{width_of_least, offset_of_least, cell_ends, first_place, mask_holds}
 use Rattle.row_image.proofs.ListLemmas.{flat_map_same}
 use Rattle.row_image.proofs.AcceptedLemmas.{HasParts, Sound, sound_of, accepted_of, row_fits}
 use Rattle.row_image.proofs.CellRuleLemmas.{KeepsHeap, AddressFits, long_rules, rules_long, short_rules, kind_rules_same}
-use Rattle.row_image.proofs.PartLemmas.{part_at_same, parts_set}
+use Rattle.row_image.proofs.PartLemmas.{part_at_same, parts_length, parts_at}
 use Rattle.row_image.proofs.PartFacts.{HasBase, PartFacts, facts_of, facts_sound, before_none, before_next, before_same, before_mono, part_for_is, Covers, covered}
 use Rattle.row_image.proofs.GrownLemmas.{all_rows}
 use Rattle.row_image.proofs.WrittenLemmas.{rows_apart, is_null_same, ruled}
 use Rattle.row_image.proofs.WrittenAccepted.{old_cell, parts_most}
-use Rattle.row_image.proofs.MoveLemmas.{long_kind, long_ends}
+use Rattle.row_image.proofs.MoveLemmas.{long_kind, long_ends, row_moves_then}
 
 -- what a move of a part's heap page leaves
 pub record Rebased (kinds : List CellKind) (old new : List ℕ) (part to : ℕ) : Type 0 where
@@ -39,8 +39,8 @@ pub record Rebased (kinds : List CellKind) (old new : List ℕ) (part to : ℕ) 
 pub row_place_mono : (kinds : List CellKind) (row other : ℕ) → row ≤ other → row_place kinds row ≤ row_place kinds other
 row_place_mono kinds row other h =
     elim (cases_eq row other) [
-      inl e ↦ omega (arith, ap (row_place kinds) e)
-    | inr ne ↦ omega (arith, rows_apart kinds row other (omega arith))
+      | inl e ↦ omega (arith, ap (row_place kinds) e)
+      | inr ne ↦ omega (arith, rows_apart kinds row other (omega arith))
     ]
 
 -- an address of a part's row is not below its base, and not far above it
@@ -66,15 +66,15 @@ reached kinds image part row column s facts small inside low high c =
     let below : row < row_count image = omega (arith, f.first, f.most) in
     record {
       low = λ long. let a = (long_fits kinds image row column (s.cell row column below c) long).2 in omega (arith, a.low, ap (λ p. p.base) is);
-      high = λ long. let a = (long_fits kinds image row column (s.cell row column below c) long).2 in omega (arith, a.high, ap (λ p. p.base) is)
+      high = λ long. let a = (long_fits kinds image row column (s.cell row column below c) long).2 in omega (arith, a.high, ap (λ p. p.base) is);
     }
 
 -- the entries of the other parts are as they were
 pub other_parts : (kinds : List CellKind) (old new : List ℕ) (part to j : ℕ) → Rebased kinds old new part to → part < 4 → j < 4 → j ≢ part → part_at new j ≡ part_at old j
 other_parts kinds old new part to j r inside j_inside ne =
     elim (cases_lt j part) [
-      inl less ↦ part_at_same old new j (32 + 24 * j) (56 + 24 * j) (record { long = r.long; same = λ k low high. r.before k (omega arith) }) (omega arith) (omega arith)
-    | inr more ↦ part_at_same old new j (32 + 24 * j) (56 + 24 * j) (record { long = r.long; same = λ k low high. r.between k (omega arith) (omega (arith, first_place kinds (part_at old part).first)) }) (omega arith) (omega arith)
+      | inl less ↦ part_at_same old new j (32 + 24 * j) (56 + 24 * j) (record { long = r.long; same = λ k low high. r.before k (omega arith) }) (omega arith) (omega arith)
+      | inr more ↦ part_at_same old new j (32 + 24 * j) (56 + 24 * j) (record { long = r.long; same = λ k low high. r.between k (omega arith) (omega (arith, first_place kinds (part_at old part).first)) }) (omega arith) (omega arith)
     ]
 
 pub moved_part : (kinds : List CellKind) (old new : List ℕ) (part to : ℕ) → Rebased kinds old new part to → part_at new part ≡ based (part_at old part) to
@@ -99,9 +99,9 @@ counts_same kinds old new part to r =
 same_rows : (kinds : List CellKind) (old new : List ℕ) (part to j : ℕ) → Rebased kinds old new part to → part < 4 → j < 4 → ((part_at new j).first ≡ (part_at old j).first) × ((part_at new j).rows ≡ (part_at old j).rows)
 same_rows kinds old new part to j r inside j_inside =
     elim (cases_eq j part) [
-      inl e ↦ let m = ap (part_at new) e ∙ moved_part kinds old new part to r in
-        (ap (λ p. p.first) m ∙ ap (λ k. (part_at old k).first) (sym e), ap (λ p. p.rows) m ∙ ap (λ k. (part_at old k).rows) (sym e))
-    | inr ne ↦ let m = other_parts kinds old new part to j r inside j_inside ne in (ap (λ p. p.first) m, ap (λ p. p.rows) m)
+      | inl e ↦ let m = ap (part_at new) e ∙ moved_part kinds old new part to r in
+          (ap (λ p. p.first) m ∙ ap (λ k. (part_at old k).first) (sym e), ap (λ p. p.rows) m ∙ ap (λ k. (part_at old k).rows) (sym e))
+      | inr ne ↦ let m = other_parts kinds old new part to j r inside j_inside ne in (ap (λ p. p.first) m, ap (λ p. p.rows) m)
     ]
 
 same_before_part : (kinds : List CellKind) (old new : List ℕ) (part to k : ℕ) → Rebased kinds old new part to → part < 4 → k ≤ 4 → rows_before new k ≡ rows_before old k
@@ -129,9 +129,9 @@ moved_facts kinds old new part to r few inside heap aligned low facts k k_inside
       most = omega (arith, rows.1, before, counts.0, f.most);
       whole = λ e. omega (arith, rows.1, before, counts.0, f.whole (omega (arith, counts.1, e)));
       base = subst Q (sym r.long) (elim (cases_eq k part) [
-        inl e ↦ subst P (sym (ap (part_at new) e ∙ moved_part kinds old new part to r)) (moved_base (length old) (part_at old part) to heap aligned low)
-      | inr ne ↦ subst P (sym (other_parts kinds old new part to k r (omega arith) (omega (arith, counts.1)) ne)) f.base
-      ])
+        | inl e ↦ subst P (sym (ap (part_at new) e ∙ moved_part kinds old new part to r)) (moved_base (length old) (part_at old part) to heap aligned low)
+        | inr ne ↦ subst P (sym (other_parts kinds old new part to k r (omega arith) (omega (arith, counts.1)) ne)) f.base
+      ]);
     }
 
 -- a row is one of the part, or its bytes are as they were and so is its part's heap page
@@ -149,16 +149,51 @@ row_after kinds old new part to row r few inside some facts facts' below =
     let now = part_for_is new c.part row facts' (omega (arith, c.inside, counts.1)) (omega (arith, before, c.low)) (omega (arith, before, rows.1, c.high)) in
     let f = facts part inside in
     elim (cases_order c.part part) [
-      inl e ↦ let first = ap (λ k. rows_before old k) e in let count = ap (λ k. (part_at old k).rows) e in
-        moves (omega (arith, f.first, first, c.low)) (omega (arith, f.first, first, count, c.high)) (was ∙ ap (part_at old) e) (now ∙ ap (part_at new) e ∙ moved_part kinds old new part to r)
-    | inr differs ↦ elim differs [
-        inl less ↦
-          let early : row < (part_at old part).first = omega (arith, f.first, c.high, before_next old c.part, before_mono old (c.part + 1) part (omega arith)) in
-          stays (record { long = r.long; same = λ k low high. r.between k (omega (arith, first_place kinds row, low)) (omega (arith, rows_apart kinds row (part_at old part).first early)) })
-          (now ∙ other_parts kinds old new part to c.part r (omega arith) (omega (arith, c.inside)) (λ e. absurd (omega (arith, e, less))) ∙ sym was)
-      | inr more ↦
-          let late : (part_at old part).first + (part_at old part).rows ≤ row = omega (arith, f.first, c.low, before_next old part, before_mono old (part + 1) c.part (omega arith)) in
-          stays (record { long = r.long; same = λ k low high. r.after k (omega (arith, row_place_mono kinds ((part_at old part).first + (part_at old part).rows) row late)) })
-          (now ∙ other_parts kinds old new part to c.part r (omega arith) (omega (arith, c.inside)) (λ e. absurd (omega (arith, e, more))) ∙ sym was)
+      | inl e ↦ let first = ap (λ k. rows_before old k) e in let count = ap (λ k. (part_at old k).rows) e in
+          moves (omega (arith, f.first, first, c.low)) (omega (arith, f.first, first, count, c.high)) (was ∙ ap (part_at old) e) (now ∙ ap (part_at new) e ∙ moved_part kinds old new part to r)
+      | inr differs ↦ elim differs [
+        | inl less ↦
+            let early : row < (part_at old part).first = omega (arith, f.first, c.high, before_next old c.part, before_mono old (c.part + 1) part (omega arith)) in
+            stays (record { long = r.long; same = λ k low high. r.between k (omega (arith, first_place kinds row, low)) (omega (arith, rows_apart kinds row (part_at old part).first early)) })
+            (now ∙ other_parts kinds old new part to c.part r (omega arith) (omega (arith, c.inside)) (λ e. absurd (omega (arith, e, less))) ∙ sym was)
+        | inr more ↦
+            let late : (part_at old part).first + (part_at old part).rows ≤ row = omega (arith, f.first, c.low, before_next old part, before_mono old (part + 1) c.part (omega arith)) in
+            stays (record { long = r.long; same = λ k low high. r.after k (omega (arith, row_place_mono kinds ((part_at old part).first + (part_at old part).rows) row late)) })
+            (now ∙ other_parts kinds old new part to c.part r (omega arith) (omega (arith, c.inside)) (λ e. absurd (omega (arith, e, more))) ∙ sym was)
       ]
     ]
+
+-- the rows of a part were moved, and then its base was written
+pub rebased_of : (kinds : List CellKind) (old mid new : List ℕ) (part to : ℕ) (this : Part) (row : ℕ) →
+    this ≡ part_at old part → part < 4 → length mid ≡ length old → length new ≡ length mid → row ≡ this.first + this.rows →
+    ChangesOnly old mid (row_place kinds this.first) (row_place kinds row) →
+    ((r : ℕ) → this.first ≤ r → r < row → MovesRow kinds old mid (row_place kinds r) this.base to) →
+    ChangesOnly mid new (48 + 24 * part) (48 + 24 * part + 8) → number_at new (48 + 24 * part) 8 ≡ to → Rebased kinds old new part to
+rebased_of kinds old mid new part to this row e few long long' end rows moved written base =
+    let first = ap (λ p. p.first) e in
+    let count = ap (λ p. p.rows) e in
+    let start = first_place kinds this.first in
+    record {
+      long = long' ∙ long;
+      before = λ k below. written.before k below ∙ rows.before k (omega (arith, start));
+      between = λ k low high. written.after k (omega arith) ∙ rows.before k (omega (arith, ap (row_place kinds) first));
+      after = λ k past.
+          let last : row_place kinds row ≤ k = omega (arith, ap (row_place kinds) (let same : row ≡ (part_at old part).first + (part_at old part).rows = omega (arith, first, count) in same)) in
+          written.after k (omega (arith, first_place kinds row)) ∙ rows.after k last;
+      rows = λ r low high.
+          let P : ℕ → Type 0 = λ b. MovesRow kinds old new (row_place kinds r) b to in
+          subst P (ap (λ p. p.base) e) (row_moves_then kinds old mid new (row_place kinds r) this.base to (moved r (omega (arith, first)) (omega (arith, first, count)))
+          (same_after mid new (48 + 24 * part) (48 + 24 * part + 8) (row_place kinds r) (row_place kinds r + width_of kinds) long' written (omega (arith, first_place kinds r))));
+      base = base;
+    }
+
+pub parts_moved : (kinds : List CellKind) (old new : List ℕ) (part to : ℕ) → Rebased kinds old new part to → part_count old ≤ 4 → part < part_count old → parts_of new ≡ set (parts_of old) part (based (part_at old part) to)
+parts_moved kinds old new part to r few inside =
+    let counts = counts_same kinds old new part to r in
+    same_lists (parts_of new) (set (parts_of old) part (based (part_at old part) to)) (parts_length new ∙ counts.1 ∙ sym (length-set (parts_of old) part (based (part_at old part) to) ∙ parts_length old))
+    (λ j d below.
+    let within : j < part_count new = omega (arith, parts_length new, below) in
+    elim (cases_eq j part) [
+      | inl e ↦ parts_at new j d within ∙ ap (part_at new) e ∙ moved_part kinds old new part to r ∙ (let room : part < length (parts_of old) = omega (arith, parts_length old) in sym (ap (λ i. get_or (set (parts_of old) part (based (part_at old part) to)) i d) e ∙ get_or-set_same (parts_of old) part (based (part_at old part) to) d room))
+      | inr ne ↦ parts_at new j d within ∙ other_parts kinds old new part to j r (omega arith) (omega (arith, counts.1)) ne ∙ sym (get_or-set_other (parts_of old) part j (based (part_at old part) to) d ne ∙ parts_at old j d (omega (arith, counts.1)))
+    ])

@@ -35,8 +35,8 @@ moved_size kinds old new at from to column long m inside text =
     let wide = ap cell_width (text_kind (get_or kinds column Bit) text) in
     let cell = m.cells column inside in
     elim (cases_Bool (is_long_in kinds old at column)) [
-      inl yes_long ↦ number_at_same old new place (place + 8) (record { long = long; same = cell.size yes_long }) place 4 (omega arith) (omega arith)
-    | inr short ↦ number_at_same old new place (place + cell_width (get_or kinds column Bit)) (record { long = long; same = cell.other short }) place 4 (omega arith) (omega (arith, wide))
+      | inl yes_long ↦ number_at_same old new place (place + 8) (record { long = long; same = cell.size yes_long }) place 4 (omega arith) (omega arith)
+      | inr short ↦ number_at_same old new place (place + cell_width (get_or kinds column Bit)) (record { long = long; same = cell.other short }) place 4 (omega arith) (omega (arith, wide))
     ]
 
 pub moved_long : (kinds : List CellKind) (old new : List ℕ) (at from to column : ℕ) → length new ≡ length old → MovesRow kinds old new at from to → column < length kinds → is_long_in kinds new at column ≡ is_long_in kinds old at column
@@ -45,10 +45,10 @@ moved_long kinds old new at from to column long m inside =
     let kind = get_or kinds column Bit in
     let place = at + offset_of kinds column in
     let sizes : (is_text kind && ltb 12 (number_at new place 4)) ≡ (is_text kind && ltb 12 (number_at old place 4)) =
-        elim (cases_Bool (is_text kind)) [
-          inl text ↦ ap (λ n. is_text kind && ltb 12 n) (moved_size kinds old new at from to column long m inside text)
-        | inr other ↦ ap (λ b. b && ltb 12 (number_at new place 4)) other ∙ sym (ap (λ b. b && ltb 12 (number_at old place 4)) other)
-        ] in
+    elim (cases_Bool (is_text kind)) [
+      | inl text ↦ ap (λ n. is_text kind && ltb 12 n) (moved_size kinds old new at from to column long m inside text)
+      | inr other ↦ ap (λ b. b && ltb 12 (number_at new place 4)) other ∙ sym (ap (λ b. b && ltb 12 (number_at old place 4)) other)
+    ] in
     ap (λ b. not b && (is_text kind && ltb 12 (number_at new place 4))) (moved_null kinds old new at from to column m inside) ∙ ap (λ s. not (is_null old at column) && s) sizes
 
 not_long : (kinds : List CellKind) (image : List ℕ) (at column : ℕ) → is_long_in kinds image at column ≡ false → is_null image at column ≡ false → (is_text (get_or kinds column Bit) && ltb 12 (number_at image (at + offset_of kinds column) 4)) ≡ false
@@ -66,13 +66,13 @@ moved_cell kinds old new part to row column long m fits inside was now sound =
     let ends = cell_ends kinds column inside in
     let start : first_damage (cond (is_null old at column) [] (kind_rules kind old place part)) ≡ None = ap (λ p. first_damage (cond (is_null old at column) [] (kind_rules kind old place p))) (sym was) ∙ sound in
     let goal : first_damage (cond (is_null old at column) [] (kind_rules kind new place (based part to))) ≡ None =
-        elim (cases_Bool (is_null old at column)) [
-          inl none ↦ ap (λ b. first_damage (cond b [] (kind_rules kind new place (based part to)))) none
-        | inr there ↦
-            let rules : first_damage (kind_rules kind old place part) ≡ None = sym (ap (λ b. first_damage (cond b [] (kind_rules kind old place part))) there) ∙ start in
-            ap (λ b. first_damage (cond b [] (kind_rules kind new place (based part to)))) there ∙
-            elim (cases_Bool (is_long_in kinds old at column)) [
-              inl is_long ↦
+    elim (cases_Bool (is_null old at column)) [
+      | inl none ↦ ap (λ b. first_damage (cond b [] (kind_rules kind new place (based part to)))) none
+      | inr there ↦
+          let rules : first_damage (kind_rules kind old place part) ≡ None = sym (ap (λ b. first_damage (cond b [] (kind_rules kind old place part))) there) ∙ start in
+          ap (λ b. first_damage (cond b [] (kind_rules kind new place (based part to)))) there ∙
+          elim (cases_Bool (is_long_in kinds old at column)) [
+            | inl is_long ↦
                 let text = long_kind kinds old at column is_long in
                 let size = moved_size kinds old new at part.base to column long m inside (ap is_text text) in
                 let fine = long_fits kinds old row column sound is_long in
@@ -82,17 +82,14 @@ moved_cell kinds old new part to row column long m fits inside was now sound =
                 subst P (sym text) (rules_long new place (based part to) (omega (arith, fine.0, size)) (omega (arith, fine.1, size, ap text_limit long)) (record {
                   heap = a.heap;
                   low = omega (arith, moved, a.low);
-                  high = omega (arith, moved, a.low, a.high, size, long)
+                  high = omega (arith, moved, a.low, a.high, size, long);
                 }))
             | inr short ↦
                 ap first_damage (kind_rules_same kind old new place (based part to) (record { long = long; same = cell.other short }) (omega (arith, ends))
                 ∙ short_rules kind old place part (based part to) (not_long kinds old at column short there)) ∙ rules
-            ]
-        ] in
+          ]
+    ] in
     ap (λ b. first_damage (cond b [] (kind_rules kind new place (part_for new row)))) null ∙ ap (λ p. first_damage (cond (is_null old at column) [] (kind_rules kind new place p))) now ∙ goal
-
-pub parts_there : (kinds : List CellKind) (image : List ℕ) → HasParts kinds image → 0 < part_count image → 0 < row_count image → 0 < part_count image
-parts_there kinds image h some rows = some
 
 has_parts_same : (kinds : List CellKind) (old new : List ℕ) → row_count new ≡ row_count old → part_count new ≡ part_count old → HasParts kinds old → HasParts kinds new
 unfolding needs_parts
@@ -115,9 +112,9 @@ rebased_accepted kinds old new part to r accepted page inside heap aligned low =
       parts = has_parts_same kinds old new counts.0 counts.1 s.parts;
       part = λ k k_inside. facts_sound new k (facts' k k_inside);
       cell = λ row column below c.
-        let below_old : row < row_count old = omega (arith, counts.0) in
-        let fits = row_lies kinds old row accepted (omega arith) below_old in
-        by_row row column below_old c fits (row_after kinds old new part to row r few inside (λ rows. omega (arith, inside)) facts facts' below_old) (s.cell row column below_old c)
+          let below_old : row < row_count old = omega (arith, counts.0) in
+          let fits = row_lies kinds old row accepted (omega arith) below_old in
+          by_row row column below_old c fits (row_after kinds old new part to row r few inside (λ rows. omega (arith, inside)) facts facts' below_old) (s.cell row column below_old c);
     })
   where
     by_row : (row column : ℕ) → row < row_count old → column < length kinds → row_place kinds row + width_of kinds ≤ length old → RowAfter kinds old new part to row → first_damage (cell_rules kinds old row column) ≡ None → first_damage (cell_rules kinds new row column) ≡ None

@@ -7,10 +7,10 @@ mod cell;
 mod check;
 mod image;
 mod layout;
+mod moves;
 mod parts;
 mod put;
 mod read;
-mod moves;
 mod write;
 
 pub use cell::{Cell, CellIn};

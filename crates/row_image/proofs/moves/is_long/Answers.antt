@@ -28,8 +28,8 @@ returns-then-is_null c =
     let kind = get_or c.args.layout.now c.args.column Bit in
     let size = nat_lt 12 (number_at c.args.image.now (c.args.at + offset_of c.args.layout.now c.args.column) 4) in
     elim c.then-is_null.branch [
-      then-is_null-via-then-is_null w ↦ sym (and_left (not (is_null c.args.image.now c.args.at c.args.column)) (is_text kind && size) (ap not (sym c.is_null.ensures ∙ w.if-is_null.true)))
-    | then-is_null-via-else-is_null+then-not-is_text w ↦ sym (and_right (not (is_null c.args.image.now c.args.at c.args.column)) (is_text kind && size) (and_left (is_text kind) size (ap is_text (sym w.kind.ensures) ∙ sym w.is_text.ensures ∙ w.if-not-is_text.true)))
+      | then-is_null-via-then-is_null w ↦ sym (and_left (not (is_null c.args.image.now c.args.at c.args.column)) (is_text kind && size) (ap not (sym c.is_null.ensures ∙ w.if-is_null.true)))
+      | then-is_null-via-else-is_null+then-not-is_text w ↦ sym (and_right (not (is_null c.args.image.now c.args.at c.args.column)) (is_text kind && size) (and_left (is_text kind) size (ap is_text (sym w.kind.ensures) ∙ sym w.is_text.ensures ∙ w.if-not-is_text.true)))
     ]
 
 pub returns : goal.returns

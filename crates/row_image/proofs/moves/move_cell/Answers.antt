@@ -24,5 +24,5 @@ returns-then-is_long-clause-others c =
     let wide = ap cell_width (long_kind kinds c.args.image.now c.args.at c.args.column (sym c.is_long.ensures ∙ c.if-is_long.true)) in
     record {
       before = λ k below. c.set_long.ensures.others.before k (omega (arith, c.offset.ensures));
-      after = λ k past. c.set_long.ensures.others.after k (omega (arith, c.offset.ensures, offset_of_next kinds c.args.column c.requires.column, wide))
+      after = λ k past. c.set_long.ensures.others.after k (omega (arith, c.offset.ensures, offset_of_next kinds c.args.column c.requires.column, wide));
     }
