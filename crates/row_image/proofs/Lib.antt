@@ -14,3 +14,6 @@ pub mod MoveLemmas
 pub mod Rebased
 pub mod RebasedAccepted
 pub mod FlatLemmas
+pub mod PieceLemmas
+pub mod FlatPieces
+pub mod FlatStored

@@ -1,5 +1,5 @@
 -- What an image says wherever its heap pages lie.
-use Rattle.std.specs.Prelude.{◌≡◌, ℕ, zero, suc, ◌+◌, ◌*◌, ◌-◌, ◌/◌, ◌%◌, nat_lt, not, ◌&&◌, Bool, if◌then◌else◌, List, [], ◌∷◌, ◌++◌, length, get_or, take, drop, replicate, slice_range}
+use Rattle.std.specs.Prelude.{◌≡◌, ℕ, zero, suc, ◌+◌, ◌*◌, ◌-◌, ◌/◌, ◌%◌, nat_lt, not, ◌&&◌, Bool, if◌then◌else◌, List, [], ◌∷◌, ◌++◌, length, get_or, take, drop, replicate, map, slice_range, Option, Some, None}
 use Rattle.std.specs.List.{range_with_len, flat_map}
 use Rattle.row_image.specs.declared.layout.CellKind.{CellKind}
 use Rattle.row_image.specs.declared.layout.CellKind.TheVariants.{Bit}
@@ -7,7 +7,9 @@ use Rattle.row_image.specs.declared.image.ImageKind.{ImageKind}
 use Rattle.row_image.specs.declared.image.ImageKind.TheVariants.{Rows, Heap, Plain}
 use Rattle.row_image.specs.Bytes.{number_at, number_bytes}
 use Rattle.row_image.specs.Layout.{cell_width, is_text, mask_bytes, offset_of, row_place}
-use Rattle.row_image.specs.Image.{row_count, part_count, is_null, part_place, part_for}
+use Rattle.row_image.specs.declared.cell.CellIn.{CellIn}
+use Rattle.row_image.specs.Cells.{StoredCell, NullCell, NumberCell, ShortCell, LongCell, given_cell}
+use Rattle.row_image.specs.Image.{row_count, part_count, is_null, part_place, part_for, StoredRow}
 
 -- whether the cell of a column, in the row at a place, is a text that lies on a heap page
 unfoldable pub is_long_in : List CellKind → List ℕ → ℕ → ℕ → Bool
@@ -44,3 +46,18 @@ flat (Rows kinds) image =
     ++ drop (row_place kinds (row_count image)) image
 flat Heap image = image
 flat Plain image = image
+
+-- a cell where a long text's address is its offset on the heap page at a base
+abbrev pub flattened : ℕ → StoredCell → StoredCell
+flattened base NullCell = NullCell
+flattened base (NumberCell z) = NumberCell z
+flattened base (ShortCell text) = ShortCell text
+flattened base (LongCell prefix size address) = LongCell prefix size (address - base)
+
+abbrev pub base_of : Option (ℕ × ℕ) → ℕ
+base_of None = 0
+base_of (Some heap) = heap.1
+
+-- a row as it is handed in, where addresses are offsets on the heap page that is handed in with it
+abbrev pub given_flat : List CellIn → ℕ → Option (ℕ × ℕ) → StoredRow
+given_flat cells hash heap = record { hash = hash; cells = map (λ cell. flattened (base_of heap) (given_cell cell)) cells }

@@ -11,6 +11,8 @@ mod moves;
 mod parts;
 mod put;
 mod read;
+#[cfg(test)]
+mod tests;
 mod write;
 
 pub use cell::{Cell, CellIn};

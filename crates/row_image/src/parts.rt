@@ -25,7 +25,8 @@ pub fn part_of(image: &[u8], part: u32) -> Part
     requires page { IsPage (length image.now) }
     requires part { part < part_count image.now }
     requires few { part_count image.now ≤ 4 }
-    ensures { slice_get (parts_of image.now) part ≡ Some result }
+    ensures listed { slice_get (parts_of image.now) part ≡ Some result }
+    ensures entry { result ≡ part_at image.now part }
 {
     part_at(image, part)
 }
