@@ -182,7 +182,7 @@ pub record OffsetsFit (kinds : List CellKind) (image : List ℕ) : Type 0 where
   pub fit : (row column : ℕ) → row < row_count image → column < length kinds → is_long_in kinds image (row_place kinds row) column ≡ true → number_at image (row_place kinds row + offset_of kinds column + 8) 8 - (part_for image row).base < 256 ^ 8
 
 -- a row of the flat image
-pub flat_stored_row : List CellKind → List ℕ → ℕ → StoredRow
+unfoldable pub flat_stored_row : List CellKind → List ℕ → ℕ → StoredRow
 flat_stored_row kinds image row =
     record { hash = stored_hash kinds image row; cells = map (λ column. flattened (part_for image row).base (stored_cell kinds image row column)) (range_with_len 0 (length kinds)) }
 

@@ -17,3 +17,4 @@ pub mod FlatLemmas
 pub mod PieceLemmas
 pub mod FlatPieces
 pub mod FlatStored
+pub mod WrittenFlat

@@ -66,7 +66,7 @@ few_parts old new row want (began w) most room =
       | inr other ↦ let ne : length (parts_of old) ≢ 4 = eqb-false (length (parts_of old)) 4 other in (omega (arith, w.count), omega (arith, w.count, parts_length old, ne))
     ]
 
-text_column : (kinds : List CellKind) (column : ℕ) → column < length kinds → get_or kinds column Bit ≡ Text → has_texts kinds ≡ true
+pub text_column : (kinds : List CellKind) (column : ℕ) → column < length kinds → get_or kinds column Bit ≡ Text → has_texts kinds ≡ true
 unfolding has_texts
 text_column kinds column inside e = list_any_at is_text kinds column Bit inside (ap is_text e)
 

@@ -95,6 +95,11 @@ pub null_is : (kinds : List CellKind) (limit : ℕ) (image : List ℕ) (at : ℕ
 null_is kinds limit image at cells hash column s meets inside =
     s.nulls column inside ∙ ap (λ cell. null_number (given_cell cell) == 1) (get_or_default cells column (Number (pos 0)) Null (omega (arith, meets.count)))
 
+pub written_cell_in : (kinds : List CellKind) (limit : ℕ) (image : List ℕ) (at : ℕ) (cells : List CellIn) (hash column : ℕ) → StoresRow kinds image at cells hash → Meets kinds limit cells → column < length kinds → cell_in kinds image at column ≡ given_cell (get_or cells column Null)
+unfolding cell_in
+written_cell_in kinds limit image at cells hash column s meets inside =
+    cell_is (is_null image at column) (get_or kinds column Bit) image (at + offset_of kinds column) (given_cell (get_or cells column Null)) (null_is kinds limit image at cells hash column s meets inside) (s.stored column inside)
+
 written_cells : (kinds : List CellKind) (limit : ℕ) (image : List ℕ) (at : ℕ) (cells : List CellIn) (hash : ℕ) → StoresRow kinds image at cells hash → Meets kinds limit cells → map (λ column. cell_in kinds image at column) (range_with_len 0 (length kinds)) ≡ map given_cell cells
 unfolding cell_in
 written_cells kinds limit image at cells hash s meets =
