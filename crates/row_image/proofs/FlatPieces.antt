@@ -28,11 +28,11 @@ flat_cell_length kinds image at base column fits inside =
     let place = at + offset_of kinds column in
     let ends = cell_ends kinds column inside in
     elim (cases_Bool (is_long_in kinds image at column)) [
-      inl long ↦
-        let wide = ap cell_width (long_kind kinds image at column long) in
-        rw long (length-append (slice_range image place (place + 8)) (number_bytes 8 (number_at image (place + 8) 8 - base))
-        ∙ omega (arith, length-between image place (place + 8) (omega (arith, wide, ends)), number_bytes_length 8 (number_at image (place + 8) 8 - base), wide))
-    | inr short ↦ rw short (length-between image place (place + cell_width (get_or kinds column Bit)) (omega (arith, ends)) ∙ omega arith)
+      | inl long ↦
+          let wide = ap cell_width (long_kind kinds image at column long) in
+          rw long (length-append (slice_range image place (place + 8)) (number_bytes 8 (number_at image (place + 8) 8 - base))
+          ∙ omega (arith, length-between image place (place + 8) (omega (arith, wide, ends)), number_bytes_length 8 (number_at image (place + 8) 8 - base), wide))
+      | inr short ↦ rw short (length-between image place (place + cell_width (get_or kinds column Bit)) (omega (arith, ends)) ∙ omega arith)
     ]
 
 offset_none : (kinds : List CellKind) → offset_of kinds 0 ≡ mask_bytes kinds + 8
@@ -42,7 +42,7 @@ offset_none kinds = omega arith
 cells_laid : (kinds : List CellKind) (image : List ℕ) (at base : ℕ) → at + width_of kinds ≤ length image → Laid (λ column. flat_cell kinds image at base column) (λ column. offset_of kinds column - (mask_bytes kinds + 8)) (length kinds)
 cells_laid kinds image at base fits = record {
   first = omega (arith, offset_none kinds);
-  next = λ k inside. omega (arith, offset_of_next kinds k inside, offset_of_least kinds k, flat_cell_length kinds image at base k fits inside)
+  next = λ k inside. omega (arith, offset_of_next kinds k inside, offset_of_least kinds k, flat_cell_length kinds image at base k fits inside);
 }
 
 row_head_length : (kinds : List CellKind) (image : List ℕ) (row : ℕ) → row_place kinds row + width_of kinds ≤ length image → length (slice_range image (row_place kinds row) (row_place kinds row + (mask_bytes kinds + 8))) ≡ mask_bytes kinds + 8
@@ -95,7 +95,7 @@ row_within kinds image row h below = omega (arith, h.all, rows_apart kinds row (
 rows_laid : (kinds : List CellKind) (image : List ℕ) → RowsLie kinds image → Laid (λ row. flat_row kinds image row) (λ row. row_place kinds row - 128) (row_count image)
 rows_laid kinds image h = record {
   first = omega (arith, row_place_none kinds);
-  next = λ k inside. omega (arith, row_place_next kinds k, first_place kinds k, flat_row_length kinds image k (row_within kinds image k h inside))
+  next = λ k inside. omega (arith, row_place_next kinds k, first_place kinds k, flat_row_length kinds image k (row_within kinds image k h inside));
 }
 
 flat_part_length : (image : List ℕ) (part : ℕ) → 128 ≤ length image → part < 4 → length (flat_part image part) ≡ 24
@@ -108,8 +108,8 @@ flat_part_length image part long inside =
     let second : length back ≡ 8 = length-between image (at + 16) (at + 24) (omega arith) ∙ omega arith in
     length-append front (cond (ltb part (part_count image)) (replicate 8 0) back) ∙
     elim (cases_Bool (ltb part (part_count image))) [
-      inl there ↦ ap (λ b. length front + length (cond b (replicate 8 0) back)) there ∙ omega (arith, first)
-    | inr past ↦ ap (λ b. length front + length (cond b (replicate 8 0) back)) past ∙ omega (arith, first, second)
+      | inl there ↦ ap (λ b. length front + length (cond b (replicate 8 0) back)) there ∙ omega (arith, first)
+      | inr past ↦ ap (λ b. length front + length (cond b (replicate 8 0) back)) past ∙ omega (arith, first, second)
     ]
 
 parts_laid : (image : List ℕ) → 128 ≤ length image → Laid (λ part. flat_part image part) (λ part. 24 * part) 4

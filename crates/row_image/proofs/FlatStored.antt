@@ -39,10 +39,10 @@ flat_same_row : (kinds : List CellKind) (image : List ℕ) (row : ℕ) → RowsL
 flat_same_row kinds image row h below = record {
   long = flat_length kinds image h;
   same = λ k low high.
-    let at = row_place kinds row in
-    let e : k ≡ at + (k - at) = omega arith in
-    ap (slice_index (flat (Rows kinds) image)) e ∙ flat_at_row kinds image row (k - at) h below (omega (arith, width_of_least kinds))
-    ∙ flat_row_head kinds image row (k - at) (row_within kinds image row h below) (omega arith) ∙ ap (slice_index image) (sym e)
+      let at = row_place kinds row in
+      let e : k ≡ at + (k - at) = omega arith in
+      ap (slice_index (flat (Rows kinds) image)) e ∙ flat_at_row kinds image row (k - at) h below (omega (arith, width_of_least kinds))
+      ∙ flat_row_head kinds image row (k - at) (row_within kinds image row h below) (omega arith) ∙ ap (slice_index image) (sym e);
 }
 
 flat_at_cell : (kinds : List CellKind) (image : List ℕ) (row column j : ℕ) → RowsLie kinds image → row < row_count image → column < length kinds → j < cell_width (get_or kinds column Bit) → slice_index (flat (Rows kinds) image) (row_place kinds row + offset_of kinds column + j) ≡ get_or (flat_cell kinds image (row_place kinds row) (part_for image row).base column) j 0
@@ -56,12 +56,12 @@ unfolding flat_cell
 short_same kinds image row column h below inside short = record {
   long = flat_length kinds image h;
   same = λ k low high.
-    let place = row_place kinds row + offset_of kinds column in
-    let width = cell_width (get_or kinds column Bit) in
-    let e : k ≡ place + (k - place) = omega arith in
-    ap (slice_index (flat (Rows kinds) image)) e ∙ flat_at_cell kinds image row column (k - place) h below inside (omega arith)
-    ∙ ap (λ b. get_or (cond b (slice_range image place (place + 8) ++ number_bytes 8 (number_at image (place + 8) 8 - (part_for image row).base)) (slice_range image place (place + width))) (k - place) 0) short
-    ∙ get_or-between image place (place + width) (k - place) 0 (omega arith) ∙ ap (slice_index image) (sym e)
+      let place = row_place kinds row + offset_of kinds column in
+      let width = cell_width (get_or kinds column Bit) in
+      let e : k ≡ place + (k - place) = omega arith in
+      ap (slice_index (flat (Rows kinds) image)) e ∙ flat_at_cell kinds image row column (k - place) h below inside (omega arith)
+      ∙ ap (λ b. get_or (cond b (slice_range image place (place + 8) ++ number_bytes 8 (number_at image (place + 8) 8 - (part_for image row).base)) (slice_range image place (place + width))) (k - place) 0) short
+      ∙ get_or-between image place (place + width) (k - place) 0 (omega arith) ∙ ap (slice_index image) (sym e);
 }
 
 -- the bytes of a long text's cell
@@ -70,18 +70,18 @@ unfolding flat_cell
 long_same kinds image row column h below inside long = record {
   long = flat_length kinds image h;
   same = λ k low high.
-    let place = row_place kinds row + offset_of kinds column in
-    let wide = ap cell_width (long_kind kinds image (row_place kinds row) column long) in
-    let width = cell_width (get_or kinds column Bit) in
-    let front = slice_range image place (place + 8) in
-    let back = number_bytes 8 (number_at image (place + 8) 8 - (part_for image row).base) in
-    let e : k ≡ place + (k - place) = omega arith in
-    let fits = row_within kinds image row h below in
-    let front_long : length front ≡ 8 = length-between image place (place + 8) (omega (arith, cell_ends kinds column inside, wide)) ∙ omega arith in
-    ap (slice_index (flat (Rows kinds) image)) e ∙ flat_at_cell kinds image row column (k - place) h below inside (omega (arith, wide))
-    ∙ ap (λ b. get_or (cond b (front ++ back) (slice_range image place (place + width))) (k - place) 0) long
-    ∙ get_or_append_left front back 0 (k - place) (omega (arith, front_long))
-    ∙ get_or-between image place (place + 8) (k - place) 0 (omega arith) ∙ ap (slice_index image) (sym e)
+      let place = row_place kinds row + offset_of kinds column in
+      let wide = ap cell_width (long_kind kinds image (row_place kinds row) column long) in
+      let width = cell_width (get_or kinds column Bit) in
+      let front = slice_range image place (place + 8) in
+      let back = number_bytes 8 (number_at image (place + 8) 8 - (part_for image row).base) in
+      let e : k ≡ place + (k - place) = omega arith in
+      let fits = row_within kinds image row h below in
+      let front_long : length front ≡ 8 = length-between image place (place + 8) (omega (arith, cell_ends kinds column inside, wide)) ∙ omega arith in
+      ap (slice_index (flat (Rows kinds) image)) e ∙ flat_at_cell kinds image row column (k - place) h below inside (omega (arith, wide))
+      ∙ ap (λ b. get_or (cond b (front ++ back) (slice_range image place (place + width))) (k - place) 0) long
+      ∙ get_or_append_left front back 0 (k - place) (omega (arith, front_long))
+      ∙ get_or-between image place (place + 8) (k - place) 0 (omega arith) ∙ ap (slice_index image) (sym e);
 }
 
 long_address : (kinds : List CellKind) (image : List ℕ) (row column : ℕ) → RowsLie kinds image → row < row_count image → column < length kinds → is_long_in kinds image (row_place kinds row) column ≡ true → number_at image (row_place kinds row + offset_of kinds column + 8) 8 - (part_for image row).base < 256 ^ 8 → number_at (flat (Rows kinds) image) (row_place kinds row + offset_of kinds column + 8) 8 ≡ number_at image (row_place kinds row + offset_of kinds column + 8) 8 - (part_for image row).base
@@ -95,10 +95,10 @@ long_address kinds image row column h below inside long small =
     let fits = row_within kinds image row h below in
     let front_long : length front ≡ 8 = length-between image place (place + 8) (omega (arith, cell_ends kinds column inside, wide)) ∙ omega arith in
     number_at_bytes (flat (Rows kinds) image) (place + 8) 8 offset (λ i less.
-      ap (slice_index (flat (Rows kinds) image)) (let e : place + 8 + i ≡ place + (8 + i) = omega arith in e) ∙ flat_at_cell kinds image row column (8 + i) h below inside (omega (arith, wide))
-      ∙ ap (λ b. get_or (cond b (front ++ number_bytes 8 offset) (slice_range image place (place + width))) (8 + i) 0) long
-      ∙ ap (λ j. get_or (front ++ number_bytes 8 offset) j 0) (let e : 8 + i ≡ length front + i = omega (arith, front_long) in e)
-      ∙ get_or-append-add front (number_bytes 8 offset) i 0) small
+    ap (slice_index (flat (Rows kinds) image)) (let e : place + 8 + i ≡ place + (8 + i) = omega arith in e) ∙ flat_at_cell kinds image row column (8 + i) h below inside (omega (arith, wide))
+    ∙ ap (λ b. get_or (cond b (front ++ number_bytes 8 offset) (slice_range image place (place + width))) (8 + i) 0) long
+    ∙ ap (λ j. get_or (front ++ number_bytes 8 offset) j 0) (let e : 8 + i ≡ length front + i = omega (arith, front_long) in e)
+    ∙ get_or-append-add front (number_bytes 8 offset) i 0) small
 
 -- a cell that isn't long has no address
 short_flattened : (kind : CellKind) (image : List ℕ) (at base : ℕ) → (is_text kind && ltb 12 (number_at image at 4)) ≡ false → flattened base (cell_at kind image at) ≡ cell_at kind image at
@@ -119,10 +119,10 @@ short_in kinds image at base column h =
     let kind = get_or kinds column Bit in
     let place = at + offset_of kinds column in
     elim (cases_Bool (is_null image at column)) [
-      inl null ↦ ap (λ b. flattened base (cond b NullCell (cell_at kind image place))) null ∙ sym (ap (λ b. cond b NullCell (cell_at kind image place)) null)
-    | inr there ↦
-        let short : (is_text kind && ltb 12 (number_at image place 4)) ≡ false = sym (ap (λ b. not b && (is_text kind && ltb 12 (number_at image place 4))) there) ∙ h in
-        ap (λ b. flattened base (cond b NullCell (cell_at kind image place))) there ∙ short_flattened kind image place base short ∙ sym (ap (λ b. cond b NullCell (cell_at kind image place)) there)
+      | inl null ↦ ap (λ b. flattened base (cond b NullCell (cell_at kind image place))) null ∙ sym (ap (λ b. cond b NullCell (cell_at kind image place)) null)
+      | inr there ↦
+          let short : (is_text kind && ltb 12 (number_at image place 4)) ≡ false = sym (ap (λ b. not b && (is_text kind && ltb 12 (number_at image place 4))) there) ∙ h in
+          ap (λ b. flattened base (cond b NullCell (cell_at kind image place))) there ∙ short_flattened kind image place base short ∙ sym (ap (λ b. cond b NullCell (cell_at kind image place)) there)
     ]
 
 -- a long text's cell
@@ -163,18 +163,18 @@ flat_cell_in kinds image row column h below inside small =
     let new = flat (Rows kinds) image in
     let fits = row_within kinds image row h below in
     elim (cases_Bool (is_long_in kinds image at column)) [
-      inl long ↦
-        let wide = ap cell_width (long_kind kinds image at column long) in
-        let same = long_same kinds image row column h below inside long in
-        long_in kinds new at column (flat_long kinds image row column h below inside long)
-        ∙ ap (λ p. LongCell p (number_at new place 4) (number_at new (place + 8) 8)) (slice_range_same image new place (place + 8) same (place + 4) (place + 8) (omega arith) (omega arith) (omega (arith, wide, cell_ends kinds column inside)))
-        ∙ ap (λ s. LongCell (slice_range image (place + 4) (place + 8)) s (number_at new (place + 8) 8)) (number_at_same image new place (place + 8) same place 4 (omega arith) (omega arith))
-        ∙ ap (LongCell (slice_range image (place + 4) (place + 8)) (number_at image place 4)) (long_address kinds image row column h below inside long (small long))
-        ∙ sym (ap (flattened base) (long_in kinds image at column long))
-    | inr short ↦
-        ap (λ b. cond b NullCell (cell_at kind new place)) (flat_null kinds image row column h below inside)
-        ∙ ap (λ cell. cond (is_null image at column) NullCell cell) (cell_at_same kind image new place (short_same kinds image row column h below inside short) (omega (arith, cell_ends kinds column inside)))
-        ∙ sym (short_in kinds image at base column short)
+      | inl long ↦
+          let wide = ap cell_width (long_kind kinds image at column long) in
+          let same = long_same kinds image row column h below inside long in
+          long_in kinds new at column (flat_long kinds image row column h below inside long)
+          ∙ ap (λ p. LongCell p (number_at new place 4) (number_at new (place + 8) 8)) (slice_range_same image new place (place + 8) same (place + 4) (place + 8) (omega arith) (omega arith) (omega (arith, wide, cell_ends kinds column inside)))
+          ∙ ap (λ s. LongCell (slice_range image (place + 4) (place + 8)) s (number_at new (place + 8) 8)) (number_at_same image new place (place + 8) same place 4 (omega arith) (omega arith))
+          ∙ ap (LongCell (slice_range image (place + 4) (place + 8)) (number_at image place 4)) (long_address kinds image row column h below inside long (small long))
+          ∙ sym (ap (flattened base) (long_in kinds image at column long))
+      | inr short ↦
+          ap (λ b. cond b NullCell (cell_at kind new place)) (flat_null kinds image row column h below inside)
+          ∙ ap (λ cell. cond (is_null image at column) NullCell cell) (cell_at_same kind image new place (short_same kinds image row column h below inside short) (omega (arith, cell_ends kinds column inside)))
+          ∙ sym (short_in kinds image at base column short)
     ]
 
 -- offsets are small
@@ -194,7 +194,7 @@ flat_rows_of kinds image h fit =
     let count = number_at_same image new 0 32 head 8 4 (omega arith) (omega arith) in
     ap (λ n. map (λ row. stored_row kinds new row) (range_with_len 0 n)) count
     ∙ map_same (λ row. stored_row kinds new row) (λ row. flat_stored_row kinds image row) (row_count image) (λ row below.
-      let at = row_place kinds row in
-      let hash = number_at_same image new at (at + mask_bytes kinds + 8) (flat_same_row kinds image row h below) (at + mask_bytes kinds) 8 (omega arith) (omega arith) in
-      let cells = map_same (λ column. stored_cell kinds new row column) (λ column. flattened (part_for image row).base (stored_cell kinds image row column)) (length kinds) (λ column inside. flat_cell_in kinds image row column h below inside (fit.fit row column below inside)) in
-      λ i. record { hash = hash i; cells = cells i })
+    let at = row_place kinds row in
+    let hash = number_at_same image new at (at + mask_bytes kinds + 8) (flat_same_row kinds image row h below) (at + mask_bytes kinds) 8 (omega arith) (omega arith) in
+    let cells = map_same (λ column. stored_cell kinds new row column) (λ column. flattened (part_for image row).base (stored_cell kinds image row column)) (length kinds) (λ column inside. flat_cell_in kinds image row column h below inside (fit.fit row column below inside)) in
+    λ i. record { hash = hash i; cells = cells i })

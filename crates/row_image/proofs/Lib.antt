@@ -18,3 +18,4 @@ pub mod PieceLemmas
 pub mod FlatPieces
 pub mod FlatStored
 pub mod WrittenFlat
+pub mod PageLemmas

@@ -34,8 +34,8 @@ laid_below F at zero h k inside = absurd (omega arith)
 laid_below F at (suc n) h k inside =
     let e : suc n ≡ n + 1 = omega arith in
     elim (cases_eq k n) [
-      inl same ↦ omega (arith, ap at same, ap (λ j. length (F j)) same, h.next n (omega arith), ap at e)
-    | inr ne ↦ omega (arith, laid_below F at n (laid_front F at n h) k (omega arith), h.next n (omega arith), ap at e)
+      | inl same ↦ omega (arith, ap at same, ap (λ j. length (F j)) same, h.next n (omega arith), ap at e)
+      | inr ne ↦ omega (arith, laid_below F at n (laid_front F at n h) k (omega arith), h.next n (omega arith), ap at e)
     ]
 
 pub pieces_at : {X : Type 0} (F : ℕ → List X) (at : ℕ → ℕ) (n : ℕ) → Laid F at n → (k j : ℕ) (d : X) → k < n → j < length (F k) → get_or (flat_map F (range_with_len 0 n)) (at k + j) d ≡ get_or (F k) j d
@@ -46,6 +46,6 @@ pieces_at F at (suc n) h k j d inside below =
     let e : suc n ≡ n + 1 = omega arith in
     ap (λ m. get_or (flat_map F (range_with_len 0 m)) (at k + j) d) e ∙ ap (λ xs. get_or xs (at k + j) d) (flat_more F n) ∙
     elim (cases_eq k n) [
-      inl same ↦ ap (λ i. get_or (front ++ F n) i d) (let place : at k + j ≡ length front + j = omega (arith, long, ap at same) in place) ∙ get_or-append-add front (F n) j d ∙ ap (λ i. get_or (F i) j d) (sym same)
-    | inr ne ↦ get_or_append_left front (F n) d (at k + j) (omega (arith, long, laid_below F at n (laid_front F at n h) k (omega arith))) ∙ pieces_at F at n (laid_front F at n h) k j d (omega arith) below
+      | inl same ↦ ap (λ i. get_or (front ++ F n) i d) (let place : at k + j ≡ length front + j = omega (arith, long, ap at same) in place) ∙ get_or-append-add front (F n) j d ∙ ap (λ i. get_or (F i) j d) (sym same)
+      | inr ne ↦ get_or_append_left front (F n) d (at k + j) (omega (arith, long, laid_below F at n (laid_front F at n h) k (omega arith))) ∙ pieces_at F at n (laid_front F at n h) k j d (omega arith) below
     ]

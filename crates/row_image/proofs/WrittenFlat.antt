@@ -41,9 +41,11 @@ rows_lie kinds image accepted page =
     record { page = omega arith; all = omega (arith, all, div-add-mod' (length image - 128) (width_of kinds)) }
 
 pub offsets_fit : (kinds : List CellKind) (image : List ℕ) → IsAccepted (Rows kinds) image → length image ≤ 262144 → OffsetsFit kinds image
-offsets_fit kinds image accepted small = record { fit = λ row column below inside long.
-    let fits = (long_fits kinds image row column ((sound_of kinds image accepted).cell row column below inside) long).2 in
-    omega (arith, fits.high) }
+offsets_fit kinds image accepted small = record {
+  fit = λ row column below inside long.
+      let fits = (long_fits kinds image row column ((sound_of kinds image accepted).cell row column below inside) long).2 in
+      omega (arith, fits.high);
+}
 
 any_base : (cell : StoredCell) (a b : ℕ) → (is_long cell ≡ true → a ≡ b) → flattened a cell ≡ flattened b cell
 any_base NullCell a b h = refl
@@ -72,14 +74,14 @@ new_flat_cells kinds old new cells hash heap w p meets holds =
     let H = λ (cell : CellIn). flattened (base_of heap) (given_cell cell) in
     same_lists (map G (range_with_len 0 (length kinds))) (map H cells) (length-map-range_with_len G 0 (length kinds) ∙ sym (length-map cells H ∙ meets.count))
     (λ k d below.
-      let inside : k < length kinds = omega (arith, length-map-range_with_len G 0 (length kinds), below) in
-      let counted : k < length cells = omega (arith, meets.count) in
-      let cell = given_cell (get_or cells k Null) in
-      get_or-map-range_with_len G 0 (length kinds) k k d inside (omega arith)
-      ∙ ap (flattened part.base) (written_cell_in kinds (text_limit (length old)) new (row_place kinds (row_count old)) cells hash k w.row meets inside)
-      ∙ any_base cell part.base (base_of heap) (λ long.
-        base_known heap part (length old) cell (holds.each k counted) long (λ h e. p.held (text_column kinds k inside (long_is_text (get_or kinds k Bit) (text_limit (length old)) cell (meets.each k inside) long)) h (wanted_long cells heap k counted long ∙ e)))
-      ∙ sym (get_or-map H cells k Null d counted))
+    let inside : k < length kinds = omega (arith, length-map-range_with_len G 0 (length kinds), below) in
+    let counted : k < length cells = omega (arith, meets.count) in
+    let cell = given_cell (get_or cells k Null) in
+    get_or-map-range_with_len G 0 (length kinds) k k d inside (omega arith)
+    ∙ ap (flattened part.base) (written_cell_in kinds (text_limit (length old)) new (row_place kinds (row_count old)) cells hash k w.row meets inside)
+    ∙ any_base cell part.base (base_of heap) (λ long.
+    base_known heap part (length old) cell (holds.each k counted) long (λ h e. p.held (text_column kinds k inside (long_is_text (get_or kinds k Bit) (text_limit (length old)) cell (meets.each k inside) long)) h (wanted_long cells heap k counted long ∙ e)))
+    ∙ sym (get_or-map H cells k Null d counted))
 
 old_flat_row : (kinds : List CellKind) (old new : List ℕ) (row : ℕ) → Sound kinds old → row < row_count old → KeepsHeap (part_for old row) (part_for new row) → SameOn old new (row_place kinds row) (row_place kinds row + width_of kinds) → row_place kinds row + width_of kinds ≤ length old → flat_stored_row kinds new row ≡ flat_stored_row kinds old row
 unfolding flat_stored_row
@@ -89,11 +91,11 @@ old_flat_row kinds old new row s below keeps h fits =
     let b = (part_for old row).base in
     let hash = ap (λ r. r.hash) (stored_row_same kinds old new row h fits) in
     let cells = map_same (λ column. flattened a (stored_cell kinds new row column)) (λ column. flattened b (stored_cell kinds old row column)) (length kinds) (λ column inside.
-        ap (flattened a) (cell_in_same kinds old new at column h fits inside) ∙
-        elim (cases_Bool (is_long_in kinds old at column)) [
-          inl long ↦ let there = (long_fits kinds old row column (s.cell row column below inside) long).2 in ap (λ base. flattened base (cell_in kinds old at column)) (keeps.base there.heap)
-        | inr short ↦ short_in kinds old at a column short ∙ sym (short_in kinds old at b column short)
-        ]) in
+    ap (flattened a) (cell_in_same kinds old new at column h fits inside) ∙
+    elim (cases_Bool (is_long_in kinds old at column)) [
+      | inl long ↦ let there = (long_fits kinds old row column (s.cell row column below inside) long).2 in ap (λ base. flattened base (cell_in kinds old at column)) (keeps.base there.heap)
+      | inr short ↦ short_in kinds old at a column short ∙ sym (short_in kinds old at b column short)
+    ]) in
     λ i. record { hash = hash i; cells = cells i }
 
 pub written_flat : (kinds : List CellKind) (old new : List ℕ) (cells : List CellIn) (hash : ℕ) (heap : Option (ℕ × ℕ)) → Written kinds old new cells hash heap → IsAccepted (Rows kinds) old → IsAccepted (Rows kinds) new → Meets kinds (text_limit (length old)) cells → HoldsTexts (length old) (parts_of old) cells heap → begins_fifth (parts_of old) (wanted cells heap) ≡ false → 4096 ≤ length old → length old ≤ 262144 →
@@ -110,6 +112,6 @@ written_flat kinds old new cells hash heap w accepted accepted' meets holds room
     ∙ map-range_with_len_more (λ row. flat_stored_row kinds new row) 0 n n (omega arith)
     ∙ ap (λ row. map (λ r. flat_stored_row kinds new r) (range_with_len 0 n) ++ row ∷ []) last
     ∙ ap (λ front. front ++ given_flat cells hash heap ∷ []) (map_same (λ row. flat_stored_row kinds new row) (λ row. flat_stored_row kinds old row) n (λ row less.
-        let apart = rows_apart kinds row n less in
-        old_flat_row kinds old new row s less (p.keeps row less) (same_within old new 128 (row_place kinds n) (row_place kinds row) (row_place kinds row + width_of kinds) w.body (first_place kinds row) apart) (omega (arith, apart, lies.all)))
-      ∙ sym (flat_rows_of kinds old lies (offsets_fit kinds old accepted small)))
+    let apart = rows_apart kinds row n less in
+    old_flat_row kinds old new row s less (p.keeps row less) (same_within old new 128 (row_place kinds n) (row_place kinds row) (row_place kinds row + width_of kinds) w.body (first_place kinds row) apart) (omega (arith, apart, lies.all)))
+    ∙ sym (flat_rows_of kinds old lies (offsets_fit kinds old accepted small)))

@@ -1,5 +1,5 @@
 //! Worked pages, byte by byte, and one damaged page for each rule.
-ghost use Rattle.std.specs.Prelude.{◌≡◌, ℕ, ◌<◌, ◌≤◌, [], ◌∷◌, length, OnOk, IfOk};
+ghost use Rattle.std.specs.Prelude.{◌≡◌, ◌%◌, ◌<◌, ◌≤◌, [], ◌∷◌, length, OnOk, IfOk, false};
 ghost use Rattle.row_image.specs.Bytes.{IsPage};
 ghost use Rattle.row_image.specs.Rules.{IsAccepted, shape_of};
 
@@ -81,40 +81,81 @@ fn first_broken_rule(rt: HostRuntime) {
         ([(36, 3), (48, 1)], DamageField::PartRows, 3, 2),
         ([(36, 1), (48, 1)], DamageField::PartRows, 1, 2),
         ([(48, 1), (137, 2)], DamageField::PartBase, 8193, high),
-        ([(54, 1), (137, 2)], DamageField::PartBase, high + 8192, high),
+        (
+            [(54, 1), (137, 2)],
+            DamageField::PartBase,
+            high + 8192,
+            high,
+        ),
         ([(137, 2), (138, 64)], DamageField::CellBit, 2, 1),
         ([(138, 64), (147, 9)], DamageField::CellLength, 64, 63),
         ([(147, 9), (172, 63)], DamageField::CellPad, 9, 0),
-        ([(172, 63), (173, 32)], DamageField::CellAddress, 8255, 12288),
-        ([(172, 244), (173, 47)], DamageField::CellAddress, 12276, 12288),
+        (
+            [(172, 63), (173, 32)],
+            DamageField::CellAddress,
+            8255,
+            12288,
+        ),
+        (
+            [(172, 244), (173, 47)],
+            DamageField::CellAddress,
+            12276,
+            12288,
+        ),
     ];
     for ([(a, x), (b, y)], field, found, bound) in cases {
         let mut image = good;
         set(&mut image, a, x);
         set(&mut image, b, y);
-        let damage = Damage { field, found, bound };
+        let damage = Damage {
+            field,
+            found,
+            bound,
+        };
         assert_eq!(rt; check(&rows, &image), Err(damage), "bytes {a} and {b}");
     }
     let mut unheaped = good;
     for place in 40..44 {
         set(&mut unheaped, place, 255);
     }
-    let damage = Damage { field: DamageField::PartBase, found: 8192, bound: 0 };
+    let damage = Damage {
+        field: DamageField::PartBase,
+        found: 8192,
+        bound: 0,
+    };
     assert_eq!(rt; check(&rows, &unheaped), Err(damage));
     set(&mut unheaped, 49, 0);
-    let damage = Damage { field: DamageField::CellAddress, found: 8256, bound: 4096 };
+    let damage = Damage {
+        field: DamageField::CellAddress,
+        found: 8256,
+        bound: 4096,
+    };
     assert_eq!(rt; check(&rows, &unheaped), Err(damage));
 
     let mut heap = [0; 4096];
-    let damage = Damage { field: DamageField::Kind, found: 0, bound: 2 };
+    let damage = Damage {
+        field: DamageField::Kind,
+        found: 0,
+        bound: 2,
+    };
     assert_eq!(rt; check(&ImageKind::Heap, &heap), Err(damage));
-    assert_eq!(rt; check(&ImageKind::Plain, &heap), Ok(Shape { rows: 0, parts: 0 }));
+    assert_eq!(rt;
+        check(&ImageKind::Plain, &heap),
+        Ok(Shape { rows: 0, parts: 0 })
+    );
     set(&mut heap, 0, 2);
     set(&mut heap, 4, 192);
     set(&mut heap, 5, 15);
-    assert_eq!(rt; check(&ImageKind::Heap, &heap), Ok(Shape { rows: 0, parts: 0 }));
+    assert_eq!(rt;
+        check(&ImageKind::Heap, &heap),
+        Ok(Shape { rows: 0, parts: 0 })
+    );
     set(&mut heap, 4, 193);
-    let damage = Damage { field: DamageField::HeapUsed, found: 4033, bound: 4032 };
+    let damage = Damage {
+        field: DamageField::HeapUsed,
+        found: 4033,
+        bound: 4032,
+    };
     assert_eq!(rt; check(&ImageKind::Heap, &heap), Err(damage));
 }
 
@@ -138,6 +179,12 @@ fn put_short(image: &mut [u8; 4096], text: &[u8]) -> Option<RowPut>
     }
 }
 
+fn is_elsewhere(part: Part, number: u32, base: u64) -> bool
+    ensures { result ≡ false → part.heap ≡ number → part.base ≡ base }
+{
+    part.heap == number && part.base != base
+}
+
 // Writes a row with the text `abcdefghijklm`, the first on a heap page, where the page is accepted
 // and does not have this heap page at another base.
 fn put_long(image: &mut [u8; 4096], number: u32, base: u64) -> Option<RowPut>
@@ -150,13 +197,14 @@ fn put_long(image: &mut [u8; 4096], number: u32, base: u64) -> Option<RowPut>
     let layout = texts();
     match check(&ImageKind::Rows(layout), image) {
         Ok(shape) => {
-            if shape.parts > 0 {
-                let last = part_of(image, shape.parts - 1);
-                if last.heap == number && last.base != base {
-                    return None;
-                }
+            if shape.parts > 0 && is_elsewhere(part_of(image, shape.parts - 1), number, base) {
+                return None;
             }
-            let cell = CellIn::Long { prefix: *b"abcd", length: 13, address: base + 64 };
+            let cell = CellIn::Long {
+                prefix: *b"abcd",
+                length: 13,
+                address: base + 64,
+            };
             Some(write_row(&layout, image, &[cell], 8, Some((number, base))))
         }
         Err(_) => None,
@@ -189,7 +237,9 @@ fn texts_lie_by_their_length(rt: HostRuntime) {
     new_rows(&texts(), &mut image);
     assert_eq!(rt; put_short(&mut image, b"abcdefghijkl"), Some(RowPut::Wrote));
     assert_eq!(rt; put_long(&mut image, 3, 12288), Some(RowPut::Wrote));
-    let short = [12, 0, 0, 0, 97, 98, 99, 100, 101, 102, 103, 104, 105, 106, 107, 108];
+    let short = [
+        12, 0, 0, 0, 97, 98, 99, 100, 101, 102, 103, 104, 105, 106, 107, 108,
+    ];
     assert_eq!(rt; &image[137..153], short.as_slice());
     let long = [13, 0, 0, 0, 97, 98, 99, 100, 0x40, 0x30, 0, 0, 0, 0, 0, 0];
     assert_eq!(rt; &image[162..178], long.as_slice());
@@ -199,7 +249,9 @@ fn texts_lie_by_their_length(rt: HostRuntime) {
     assert_eq!(rt; &image[162..178], moved.as_slice());
     let head = [2, 0, 0, 0, 1, 0, 0, 0];
     assert_eq!(rt; &image[8..16], head.as_slice());
-    let part = [0, 0, 0, 0, 2, 0, 0, 0, 3, 0, 0, 0, 0, 0, 0, 0, 0, 0x70, 0, 0, 0, 0, 0, 0];
+    let part = [
+        0, 0, 0, 0, 2, 0, 0, 0, 3, 0, 0, 0, 0, 0, 0, 0, 0, 0x70, 0, 0, 0, 0, 0, 0,
+    ];
     assert_eq!(rt; &image[32..56], part.as_slice());
 
     for number in 4..7 {
@@ -211,7 +263,10 @@ fn texts_lie_by_their_length(rt: HostRuntime) {
         assert_eq!(rt; put_short(&mut image, b""), Some(RowPut::Wrote));
     }
     assert_eq!(rt; put_long(&mut image, 7, 8192), Some(RowPut::PageFull));
-    let shape = Shape { rows: 158, parts: 4 };
+    let shape = Shape {
+        rows: 158,
+        parts: 4,
+    };
     assert_eq!(rt; check(&ImageKind::Rows(texts()), &image), Ok(shape));
 }
 
