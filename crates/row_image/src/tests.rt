@@ -259,7 +259,7 @@ fn texts_lie_by_their_length(rt: HostRuntime) {
     }
     assert_eq!(rt; put_long(&mut image, 7, 8192), Some(RowPut::PartsFull));
     assert_eq!(rt; put_long(&mut image, 6, 8192), Some(RowPut::Wrote));
-    for _ in 6..158 {
+    for _row in 6..158 {
         assert_eq!(rt; put_short(&mut image, b""), Some(RowPut::Wrote));
     }
     assert_eq!(rt; put_long(&mut image, 7, 8192), Some(RowPut::PageFull));
