@@ -1,7 +1,7 @@
 -- The rules of a cell: they speak of its own bytes and of the heap page of its part.
-use Rattle.std.proofs.Common.{◌≡◌, ◌≢◌, ℕ, zero, suc, ◌+◌, ◌*◌, ◌-◌, ◌<◌, ◌≤◌, ◌≤ℤ◌, Bool, true, false, not, cond, eqb, leb, ltb, List, [], ◌∷◌, length, get_or, ℤ, Option, Some, None, refl, sym, ap, ◌∙◌, arith, inl, inr, pos}
-use Rattle.std.specs.Prelude.{◌&&◌, slice_index, slice_range, find, unwrap_or}
-use Rattle.std.proofs.lemmas.Bool.{eqb-true, leb-true, leb-false, eq-eqb, eqb-false, ne_eqb, le-leb, lt-leb, ltb-false, and_parts, and_from, not-true}
+use Rattle.std.proofs.Common.{◌≡◌, ◌≢◌, ℕ, ◌+◌, ◌<◌, ◌≤◌, ◌≤ℤ◌, true, false, not, cond, eqb, leb, ltb, List, [], ◌∷◌, length, get_or, ℤ, None, refl, sym, ap, ◌∙◌, arith, inl, inr, pos}
+use Rattle.std.specs.Prelude.{◌&&◌, slice_index, slice_range, unwrap_or}
+use Rattle.std.proofs.lemmas.Bool.{leb-true, eq-eqb, eqb-false, ne_eqb, le-leb, lt-leb, ltb-false, and_parts, and_from, not-true}
 use Rattle.std.proofs.lemmas.Bool.Decides.{leb_tells}
 use Rattle.std.proofs.lemmas.Int.{ints}
 use Rattle.std.proofs.lemmas.List.Edits.{length-between, get_or-between}
@@ -13,7 +13,7 @@ use Rattle.row_image.specs.Layout.{cell_width, is_text}
 use Rattle.row_image.specs.Cells.{StoredCell, NullCell, NumberCell, ShortCell, LongCell, Takes}
 use Rattle.row_image.specs.Image.{cell_at, text_at, no_heap}
 use Rattle.row_image.specs.Stores.{StoresAt}
-use Rattle.row_image.specs.Rules.{first_damage, text_limit, Rule, bit_rule, size_rule, first_set, pad_rule, address_rule, text_rule, text_rules, kind_rules}
+use Rattle.row_image.specs.Rules.{first_damage, text_limit, bit_rule, size_rule, first_set, pad_rule, address_rule, text_rule, text_rules, kind_rules}
 use Rattle.row_image.proofs.ByteLemmas.{SameOn, number_at_same, slice_range_same}
 use Rattle.row_image.proofs.ListLemmas.{find_none}
 use Rattle.row_image.proofs.RuleLemmas.{sound_cons, cons_sound}

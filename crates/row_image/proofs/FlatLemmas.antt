@@ -1,25 +1,24 @@
 -- A page one of whose heap pages moved says the same.
-use Rattle.std.proofs.Common.{◌≡◌, ◌≢◌, ℕ, ◌+◌, ◌*◌, ◌-◌, ◌%◌, ◌^◌, ◌<◌, ◌≤◌, Bool, true, false, cond, ltb, List, [], ◌∷◌, ◌++◌, length, get_or, take, drop, replicate, refl, sym, ap, subst, ◌∙◌, arith, inl, inr}
+use Rattle.std.proofs.Common.{◌≡◌, ◌≢◌, ℕ, ◌+◌, ◌-◌, ◌%◌, ◌^◌, ◌<◌, ◌≤◌, true, cond, ltb, List, ◌++◌, length, get_or, take, drop, replicate, sym, ap, ◌∙◌, arith, inl, inr}
 use Rattle.std.specs.Prelude.{slice_index, slice_range}
 use Rattle.std.specs.List.{range_with_len, flat_map}
-use Rattle.std.proofs.lemmas.Bool.{lt-ltb, le-ltb, cases_lt, cases_Bool, cases_eq}
+use Rattle.std.proofs.lemmas.Bool.{lt-ltb, cases_lt, cases_Bool}
 use Rattle.std.proofs.lemmas.Grind.{same_number_lists}
 use Rattle.std.proofs.lemmas.List.{length-drop, get_or-drop}
 use Rattle.row_image.specs.declared.layout.CellKind.{CellKind}
-use Rattle.row_image.specs.declared.layout.CellKind.TheVariants.{Bit, Text}
-use Rattle.row_image.specs.declared.image.Part.{Part}
+use Rattle.row_image.specs.declared.layout.CellKind.TheVariants.{Bit}
 use Rattle.row_image.specs.declared.image.ImageKind.TheVariants.{Rows}
 use Rattle.row_image.specs.Bytes.{number_at, number_bytes}
 use Rattle.row_image.specs.Layout.{cell_width, mask_bytes, offset_of, width_of, row_place}
 use Rattle.row_image.specs.Image.{row_count, part_count, part_at, part_for, part_place, no_heap}
 use Rattle.row_image.specs.Flat.{is_long_in, flat_cell, flat_row, flat_part, flat}
-use Rattle.row_image.specs.Moves.{based, MovesCell, MovesRow}
+use Rattle.row_image.specs.Moves.{MovesRow}
 use Rattle.row_image.specs.Rules.{IsAccepted}
 use Rattle.row_image.proofs.ByteLemmas.{SameOn, number_at_same, slice_range_same, same_within}
-use Rattle.row_image.proofs.LayoutLemmas.{width_of_least, offset_of_least, cell_ends, first_place}
+use Rattle.row_image.proofs.LayoutLemmas.{width_of_least, cell_ends, first_place}
 use Rattle.row_image.proofs.ListLemmas.{flat_map_same}
-use Rattle.row_image.proofs.AcceptedLemmas.{sound_of, row_lies, row_fits}
-use Rattle.row_image.proofs.PartFacts.{PartFacts, facts_of, before_next}
+use Rattle.row_image.proofs.AcceptedLemmas.{sound_of, row_lies}
+use Rattle.row_image.proofs.PartFacts.{PartFacts, facts_of}
 use Rattle.row_image.proofs.WrittenAccepted.{parts_most}
 use Rattle.row_image.proofs.MoveLemmas.{is_long_same, long_kind}
 use Rattle.row_image.proofs.Rebased.{Rebased, counts_same, moved_facts, RowAfter, moves, stays, row_after, row_place_mono, long_fits}

@@ -1,15 +1,15 @@
 -- The pieces of a flat image: it is as long as the image, and its rows lie where the image's lie.
-use Rattle.std.proofs.Common.{◌≡◌, ℕ, zero, suc, ◌+◌, ◌*◌, ◌-◌, ◌/◌, ◌%◌, ◌<◌, ◌≤◌, Bool, true, false, cond, ltb, List, [], ◌∷◌, ◌++◌, length, get_or, take, drop, replicate, refl, sym, ap, subst, ◌∙◌, arith, inl, inr, length-append}
-use Rattle.std.specs.Prelude.{slice_index, slice_range}
-use Rattle.std.specs.List.{range_with_len, flat_map, sum_by}
-use Rattle.std.proofs.lemmas.Bool.{cases_Bool, cases_eq, cases_lt, lt-ltb, le-ltb}
-use Rattle.std.proofs.lemmas.List.{length-drop, length-take, length-replicate, get_or-append-add, get_or_append_left, get_or-take}
+use Rattle.std.proofs.Common.{◌≡◌, ℕ, zero, suc, ◌+◌, ◌*◌, ◌-◌, ◌/◌, ◌<◌, ◌≤◌, cond, ltb, List, ◌++◌, length, get_or, take, drop, replicate, refl, ap, ◌∙◌, arith, inl, inr, length-append}
+use Rattle.std.specs.Prelude.{slice_range}
+use Rattle.std.specs.List.{range_with_len, flat_map}
+use Rattle.std.proofs.lemmas.Bool.{cases_Bool}
+use Rattle.std.proofs.lemmas.List.{length-drop, length-take, get_or-append-add, get_or_append_left, get_or-take}
 use Rattle.std.proofs.lemmas.List.Edits.{length-between, get_or-between}
 use Rattle.row_image.specs.declared.layout.CellKind.{CellKind}
-use Rattle.row_image.specs.declared.layout.CellKind.TheVariants.{Bit, Text}
+use Rattle.row_image.specs.declared.layout.CellKind.TheVariants.{Bit}
 use Rattle.row_image.specs.declared.image.ImageKind.TheVariants.{Rows}
 use Rattle.row_image.specs.Bytes.{number_at, number_bytes}
-use Rattle.row_image.specs.Layout.{cell_width, mask_bytes, offset_of, width_of, rows_that_fit, row_place}
+use Rattle.row_image.specs.Layout.{cell_width, mask_bytes, offset_of, width_of, row_place}
 use Rattle.row_image.specs.Image.{row_count, part_count, part_place, part_for}
 use Rattle.row_image.specs.Flat.{is_long_in, flat_cell, flat_row, flat_part, flat}
 use Rattle.row_image.proofs.LayoutLemmas.{width_of_least, offset_of_least, offset_of_next, offset_of_past, cell_ends, first_place}

@@ -1,30 +1,27 @@
 -- The rows of a flat image: those of the image, with offsets for addresses.
-use Rattle.std.proofs.Common.{◌≡◌, ◌≢◌, ℕ, zero, suc, ◌+◌, ◌*◌, ◌-◌, ◌/◌, ◌%◌, ◌^◌, ◌<◌, ◌≤◌, Bool, true, false, not, cond, ltb, leb, List, [], ◌∷◌, ◌++◌, length, get_or, map, Option, Some, None, refl, sym, ap, subst, ◌∙◌, arith, inl, inr, length-append}
+use Rattle.std.proofs.Common.{◌≡◌, ℕ, zero, suc, ◌+◌, ◌*◌, ◌-◌, ◌/◌, ◌%◌, ◌^◌, ◌<◌, true, false, not, cond, ltb, leb, List, ◌++◌, length, get_or, map, refl, sym, ap, subst, ◌∙◌, arith, inl, inr}
 use Rattle.std.specs.Prelude.{slice_index, slice_range, ◌&&◌, ◌==◌}
 use Rattle.std.specs.List.{range_with_len}
 use Rattle.std.specs.Int.{bit_at}
 use Rattle.std.proofs.lemmas.Bool.{cases_Bool, not-true, and_parts, ltb-true, ltb-false, le-leb}
-use Rattle.std.proofs.lemmas.List.{get_or-append-add, get_or_append_left, same_lists, length-map, get_or-map}
+use Rattle.std.proofs.lemmas.List.{get_or-append-add, get_or_append_left}
 use Rattle.std.proofs.lemmas.List.Edits.{length-between, get_or-between}
-use Rattle.std.proofs.lemmas.List.FromFn.{map-range_with_len_more, length-map-range_with_len, get_or-map-range_with_len}
 use Rattle.std.proofs.lemmas.Nat.{div_below}
 use Rattle.std.proofs.Math.Nat.{pow-suc}
 use Rattle.row_image.specs.declared.layout.CellKind.{CellKind}
 use Rattle.row_image.specs.declared.layout.CellKind.TheVariants.{Bit, Four, Eight, Sixteen, Text}
-use Rattle.row_image.specs.declared.cell.CellIn.{CellIn}
-use Rattle.row_image.specs.declared.cell.CellIn.TheVariants.{Null}
 use Rattle.row_image.specs.declared.image.ImageKind.TheVariants.{Rows}
 use Rattle.row_image.specs.Bytes.{number_at, number_bytes}
-use Rattle.row_image.specs.Layout.{cell_width, is_text, mask_bytes, offset_of, width_of, row_place}
-use Rattle.row_image.specs.Cells.{StoredCell, NullCell, NumberCell, ShortCell, LongCell, given_cell, Meets}
-use Rattle.row_image.specs.Image.{row_count, is_null, text_at, cell_at, cell_in, stored_cell, stored_hash, StoredRow, stored_row, rows_of, part_for}
-use Rattle.row_image.specs.Flat.{is_long_in, flat_cell, flat_row, flat, flattened}
+use Rattle.row_image.specs.Layout.{cell_width, is_text, mask_bytes, offset_of, row_place}
+use Rattle.row_image.specs.Cells.{NullCell, ShortCell, LongCell}
+use Rattle.row_image.specs.Image.{row_count, is_null, cell_at, cell_in, stored_cell, stored_hash, StoredRow, stored_row, rows_of, part_for}
+use Rattle.row_image.specs.Flat.{is_long_in, flat_cell, flat, flattened}
 use Rattle.row_image.proofs.ByteLemmas.{SameOn, number_at_same, slice_range_same}
-use Rattle.row_image.proofs.LayoutLemmas.{width_of_least, offset_of_least, cell_ends, mask_holds}
+use Rattle.row_image.proofs.LayoutLemmas.{width_of_least, cell_ends, mask_holds}
 use Rattle.row_image.proofs.ListLemmas.{map_same}
 use Rattle.row_image.proofs.StoreLemmas.{cell_at_same, cell_at_long}
 use Rattle.row_image.proofs.MoveLemmas.{long_kind}
-use Rattle.row_image.proofs.FlatPieces.{number_bytes_length, flat_cell_length, flat_row_head, flat_row_cell, RowsLie, row_within, flat_length, flat_at_row, flat_at_head}
+use Rattle.row_image.proofs.FlatPieces.{flat_row_head, flat_row_cell, RowsLie, row_within, flat_length, flat_at_row, flat_at_head}
 
 pub number_at_bytes : (image : List ℕ) (at n x : ℕ) → ((i : ℕ) → i < n → slice_index image (at + i) ≡ get_or (number_bytes n x) i 0) → x < 256 ^ n → number_at image at n ≡ x
 unfolding number_at number_bytes

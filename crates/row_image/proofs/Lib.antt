@@ -19,3 +19,4 @@ pub mod FlatPieces
 pub mod FlatStored
 pub mod WrittenFlat
 pub mod PageLemmas
+pub mod Laws

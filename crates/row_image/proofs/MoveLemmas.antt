@@ -1,18 +1,17 @@
 -- The cells of a row whose heap page moves.
-use Rattle.std.proofs.Common.{◌≡◌, ◌≢◌, ℕ, ◌+◌, ◌-◌, ◌/◌, ◌%◌, ◌<◌, ◌≤◌, Bool, true, false, not, cond, List, length, get_or, refl, sym, ap, subst, ◌∙◌, arith, inl, inr}
-use Rattle.std.specs.Prelude.{◌&&◌, nat_lt, slice_index, ◌==◌}
+use Rattle.std.proofs.Common.{◌≡◌, ℕ, ◌+◌, ◌-◌, ◌/◌, ◌%◌, ◌<◌, ◌≤◌, Bool, true, not, List, length, get_or, refl, sym, ap, ◌∙◌, arith, inl, inr}
+use Rattle.std.specs.Prelude.{◌&&◌, nat_lt, ◌==◌}
 use Rattle.std.specs.Int.{bit_at}
 use Rattle.std.proofs.lemmas.Bool.{and_parts, cases_Bool, false≢true}
 use Rattle.row_image.specs.declared.layout.CellKind.{CellKind}
 use Rattle.row_image.specs.declared.layout.CellKind.TheVariants.{Bit, Four, Eight, Sixteen, Text}
-use Rattle.row_image.specs.Bytes.{number_at, ChangesOnly}
+use Rattle.row_image.specs.Bytes.{number_at}
 use Rattle.row_image.specs.Layout.{cell_width, is_text, mask_bytes, offset_of, width_of}
 use Rattle.row_image.specs.Image.{is_null}
 use Rattle.row_image.specs.Flat.{is_long_in}
 use Rattle.row_image.specs.Moves.{MovesCell, MovesRow, IsReached}
 use Rattle.row_image.proofs.ByteLemmas.{SameOn, number_at_same, same_within}
-use Rattle.row_image.proofs.LayoutLemmas.{width_of_least, offset_of_least, cell_ends, mask_holds}
-use Rattle.row_image.proofs.WrittenLemmas.{is_null_same}
+use Rattle.row_image.proofs.LayoutLemmas.{width_of_least, cell_ends, mask_holds}
 
 pub text_kind : (kind : CellKind) → is_text kind ≡ true → kind ≡ Text
 text_kind Bit h = absurd (false≢true h)

@@ -1,31 +1,26 @@
 -- A page one of whose heap pages moved: it is accepted, and says the same.
-use Rattle.std.proofs.Common.{◌≡◌, ◌≢◌, ℕ, zero, suc, ◌+◌, ◌*◌, ◌-◌, ◌%◌, ◌^◌, ◌<◌, ◌≤◌, Bool, true, false, not, cond, eqb, leb, ltb, List, [], ◌∷◌, ◌++◌, length, get_or, set, take, drop, replicate, None, refl, sym, ap, subst, ◌∙◌, arith, inl, inr}
-use Rattle.std.specs.Prelude.{◌&&◌, slice_index, slice_range}
-use Rattle.std.specs.List.{range_with_len, flat_map}
-use Rattle.std.proofs.lemmas.Bool.{eqb-true, eq-eqb, ne_eqb, lt-ltb, le-ltb, ltb-true, ltb-false, not-true, not-false, and_from, and_parts, cases_eq, cases_lt, cases_order, cases_Bool, false≢true}
-use Rattle.std.proofs.lemmas.Grind.{same_number_lists}
+use Rattle.std.proofs.Common.{◌≡◌, ◌≢◌, ℕ, zero, suc, ◌+◌, ◌*◌, ◌%◌, ◌^◌, ◌<◌, ◌≤◌, true, not, cond, eqb, ltb, List, [], length, get_or, set, None, sym, ap, subst, ◌∙◌, arith, inl, inr}
+use Rattle.std.specs.Prelude.{◌&&◌, slice_index}
+use Rattle.std.proofs.lemmas.Bool.{eq-eqb, ne_eqb, lt-ltb, ltb-true, not-true, and_from, and_parts, cases_eq, cases_lt, cases_order}
 use Rattle.std.proofs.lemmas.List.{same_lists, length-set, get_or-set_same, get_or-set_other}
 use Rattle.row_image.specs.declared.layout.CellKind.{CellKind}
 use Rattle.row_image.specs.declared.layout.CellKind.TheVariants.{Bit, Text}
 use Rattle.row_image.specs.declared.image.Part.{Part}
-use Rattle.row_image.specs.declared.image.ImageKind.TheVariants.{Rows}
-use Rattle.row_image.specs.Bytes.{number_at, number_bytes, ChangesOnly}
-use Rattle.row_image.specs.Layout.{cell_width, is_text, mask_bytes, offset_of, width_of, rows_that_fit, row_place}
-use Rattle.row_image.specs.Image.{row_count, part_count, is_null, part_at, parts_of, part_for, part_place, no_heap}
-use Rattle.row_image.specs.Rules.{first_damage, text_limit, kind_rules, cell_rules, part_rules, rows_before, needs_parts, IsAccepted}
-use Rattle.row_image.specs.Flat.{is_long_in, flat_cell, flat_row, flat_part, flat}
-use Rattle.row_image.specs.Moves.{based, MovesCell, MovesRow, IsReached}
-use Rattle.row_image.proofs.ByteLemmas.{SameOn, number_at_same, slice_range_same, same_within, same_after}
-use Rattle.row_image.proofs.LayoutLemmas.{width_of_least, offset_of_least, cell_ends, first_place, mask_holds}
-use Rattle.row_image.proofs.ListLemmas.{flat_map_same}
-use Rattle.row_image.proofs.AcceptedLemmas.{HasParts, Sound, sound_of, accepted_of, row_fits}
-use Rattle.row_image.proofs.CellRuleLemmas.{KeepsHeap, AddressFits, long_rules, rules_long, short_rules, kind_rules_same}
+use Rattle.row_image.specs.Bytes.{number_at, ChangesOnly}
+use Rattle.row_image.specs.Layout.{is_text, offset_of, width_of, row_place}
+use Rattle.row_image.specs.Image.{row_count, part_count, is_null, part_at, parts_of, part_for, no_heap}
+use Rattle.row_image.specs.Rules.{first_damage, text_limit, kind_rules, cell_rules, rows_before}
+use Rattle.row_image.specs.Flat.{is_long_in}
+use Rattle.row_image.specs.Moves.{based, MovesRow, IsReached}
+use Rattle.row_image.proofs.ByteLemmas.{SameOn, number_at_same, same_after}
+use Rattle.row_image.proofs.LayoutLemmas.{first_place}
+use Rattle.row_image.proofs.AcceptedLemmas.{Sound}
+use Rattle.row_image.proofs.CellRuleLemmas.{AddressFits, long_rules}
 use Rattle.row_image.proofs.PartLemmas.{part_at_same, parts_length, parts_at}
-use Rattle.row_image.proofs.PartFacts.{HasBase, PartFacts, facts_of, facts_sound, before_none, before_next, before_same, before_mono, part_for_is, Covers, covered}
+use Rattle.row_image.proofs.PartFacts.{HasBase, PartFacts, before_none, before_next, before_mono, part_for_is, covered}
 use Rattle.row_image.proofs.GrownLemmas.{all_rows}
-use Rattle.row_image.proofs.WrittenLemmas.{rows_apart, is_null_same, ruled}
-use Rattle.row_image.proofs.WrittenAccepted.{old_cell, parts_most}
-use Rattle.row_image.proofs.MoveLemmas.{long_kind, long_ends, row_moves_then}
+use Rattle.row_image.proofs.WrittenLemmas.{rows_apart}
+use Rattle.row_image.proofs.MoveLemmas.{long_kind, row_moves_then}
 
 -- what a move of a part's heap page leaves
 pub record Rebased (kinds : List CellKind) (old new : List ℕ) (part to : ℕ) : Type 0 where

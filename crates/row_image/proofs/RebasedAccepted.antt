@@ -1,24 +1,23 @@
 -- A page one of whose heap pages moved is accepted.
-use Rattle.std.proofs.Common.{◌≡◌, ◌≢◌, ℕ, ◌+◌, ◌*◌, ◌-◌, ◌/◌, ◌%◌, ◌^◌, ◌<◌, ◌≤◌, Bool, true, false, not, cond, eqb, leb, ltb, List, [], length, get_or, None, refl, sym, ap, subst, ◌∙◌, arith, inl, inr}
-use Rattle.std.specs.Prelude.{◌&&◌, ◌==◌, slice_index}
+use Rattle.std.proofs.Common.{◌≡◌, ◌≢◌, ℕ, ◌+◌, ◌/◌, ◌%◌, ◌^◌, ◌<◌, ◌≤◌, true, false, not, cond, eqb, leb, ltb, List, [], length, get_or, None, sym, ap, subst, ◌∙◌, arith, inl, inr}
+use Rattle.std.specs.Prelude.{◌&&◌, ◌==◌}
 use Rattle.std.specs.Int.{bit_at}
-use Rattle.std.proofs.lemmas.Bool.{not-true, and_parts, and_cases, cases_Bool, cases_eq, false≢true}
+use Rattle.std.proofs.lemmas.Bool.{cases_Bool}
 use Rattle.row_image.specs.declared.layout.CellKind.{CellKind}
-use Rattle.row_image.specs.declared.layout.CellKind.TheVariants.{Bit, Text}
+use Rattle.row_image.specs.declared.layout.CellKind.TheVariants.{Bit}
 use Rattle.row_image.specs.declared.image.Part.{Part}
 use Rattle.row_image.specs.declared.image.ImageKind.TheVariants.{Rows}
 use Rattle.row_image.specs.Bytes.{number_at}
-use Rattle.row_image.specs.Layout.{cell_width, is_text, mask_bytes, offset_of, width_of, has_texts, rows_that_fit, row_place}
+use Rattle.row_image.specs.Layout.{cell_width, is_text, offset_of, width_of, has_texts, rows_that_fit, row_place}
 use Rattle.row_image.specs.Image.{row_count, part_count, is_null, part_at, part_for, no_heap}
 use Rattle.row_image.specs.Rules.{first_damage, text_limit, kind_rules, cell_rules, needs_parts, IsAccepted}
 use Rattle.row_image.specs.Flat.{is_long_in}
-use Rattle.row_image.specs.Moves.{based, MovesCell, MovesRow}
-use Rattle.row_image.proofs.ByteLemmas.{SameOn, number_at_same, same_within}
-use Rattle.row_image.proofs.LayoutLemmas.{width_of_least, cell_ends, mask_holds}
-use Rattle.row_image.proofs.AcceptedLemmas.{HasParts, Sound, sound_of, accepted_of, row_lies}
-use Rattle.row_image.proofs.CellRuleLemmas.{KeepsHeap, AddressFits, long_rules, rules_long, short_rules, kind_rules_same}
+use Rattle.row_image.specs.Moves.{based, MovesRow}
+use Rattle.row_image.proofs.ByteLemmas.{SameOn, number_at_same}
+use Rattle.row_image.proofs.LayoutLemmas.{cell_ends, mask_holds}
+use Rattle.row_image.proofs.AcceptedLemmas.{HasParts, sound_of, accepted_of, row_lies}
+use Rattle.row_image.proofs.CellRuleLemmas.{AddressFits, rules_long, short_rules, kind_rules_same}
 use Rattle.row_image.proofs.PartFacts.{PartFacts, facts_of, facts_sound}
-use Rattle.row_image.proofs.WrittenLemmas.{ruled}
 use Rattle.row_image.proofs.WrittenAccepted.{old_cell, parts_most}
 use Rattle.row_image.proofs.MoveLemmas.{text_kind, long_kind}
 use Rattle.row_image.proofs.Rebased.{Rebased, counts_same, moved_facts, RowAfter, moves, stays, row_after, long_fits}

@@ -1,9 +1,8 @@
 -- A row more, in the flat image.
-use Rattle.std.proofs.Common.{◌≡◌, ◌≢◌, ℕ, ◌+◌, ◌*◌, ◌-◌, ◌/◌, ◌^◌, ◌<◌, ◌≤◌, Bool, true, false, cond, List, [], ◌∷◌, ◌++◌, length, get_or, map, Option, Some, None, refl, sym, ap, subst, ◌∙◌, arith, inl, inr}
+use Rattle.std.proofs.Common.{◌≡◌, ℕ, ◌+◌, ◌*◌, ◌-◌, ◌/◌, ◌<◌, ◌≤◌, true, false, List, [], ◌∷◌, ◌++◌, length, get_or, map, Option, Some, None, refl, sym, ap, ◌∙◌, arith, inl, inr}
 use Rattle.std.specs.List.{range_with_len}
-use Rattle.std.specs.Prelude.{IfSome}
 use Rattle.std.proofs.lemmas.Bool.{cases_Bool, false≢true}
-use Rattle.std.proofs.lemmas.List.{same_lists, length-map, get_or-map, get_or_default}
+use Rattle.std.proofs.lemmas.List.{same_lists, length-map, get_or-map}
 use Rattle.std.proofs.lemmas.List.FromFn.{map-range_with_len_more, length-map-range_with_len, get_or-map-range_with_len}
 use Rattle.std.proofs.lemmas.Nat.{mul-le, div-add-mod'}
 use Rattle.row_image.specs.declared.layout.CellKind.{CellKind}
@@ -12,15 +11,14 @@ use Rattle.row_image.specs.declared.cell.CellIn.{CellIn}
 use Rattle.row_image.specs.declared.cell.CellIn.TheVariants.{Null}
 use Rattle.row_image.specs.declared.image.ImageKind.TheVariants.{Rows}
 use Rattle.row_image.specs.declared.image.Part.{Part}
-use Rattle.row_image.specs.Bytes.{number_at}
-use Rattle.row_image.specs.Layout.{cell_width, offset_of, width_of, rows_that_fit, row_place, has_texts}
+use Rattle.row_image.specs.Layout.{width_of, rows_that_fit, row_place}
 use Rattle.row_image.specs.Cells.{StoredCell, NullCell, NumberCell, ShortCell, LongCell, given_cell, Takes, Meets}
-use Rattle.row_image.specs.Image.{row_count, cell_in, stored_cell, stored_hash, StoredRow, rows_of, part_for, parts_of, no_heap}
-use Rattle.row_image.specs.Parts.{is_long, wanted, begins_fifth, IsHeap, LiesOn, HoldsTexts}
+use Rattle.row_image.specs.Image.{row_count, cell_in, stored_cell, stored_hash, rows_of, part_for, parts_of}
+use Rattle.row_image.specs.Parts.{is_long, wanted, begins_fifth, LiesOn, HoldsTexts}
 use Rattle.row_image.specs.Rules.{text_limit, IsAccepted}
 use Rattle.row_image.specs.Flat.{is_long_in, flat, flattened, base_of, given_flat}
-use Rattle.row_image.proofs.ByteLemmas.{SameOn, number_at_same, same_within}
-use Rattle.row_image.proofs.LayoutLemmas.{width_of_least, first_place}
+use Rattle.row_image.proofs.ByteLemmas.{SameOn, same_within}
+use Rattle.row_image.proofs.LayoutLemmas.{first_place}
 use Rattle.row_image.proofs.ListLemmas.{map_same}
 use Rattle.row_image.proofs.AcceptedLemmas.{Sound, sound_of}
 use Rattle.row_image.proofs.CellRuleLemmas.{KeepsHeap}

@@ -1,4 +1,4 @@
-use Rattle.std.proofs.Common.{◌≡◌, ◌+◌, true, false, not, get_or, cond, arith, ap, sym, ◌∙◌}
+use Rattle.std.proofs.Common.{◌+◌, not, get_or, arith, ap, sym, ◌∙◌}
 use Rattle.std.specs.Prelude.{◌&&◌, nat_lt}
 use Rattle.std.proofs.lemmas.Bool.{and_left, and_right}
 use Rattle.row_image.specs.declared.layout.CellKind.TheVariants.{Bit}

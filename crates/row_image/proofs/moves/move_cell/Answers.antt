@@ -1,8 +1,6 @@
-use Rattle.std.proofs.Common.{◌≡◌, ◌+◌, ◌<◌, ◌≤◌, true, arith, ap, sym, ◌∙◌}
-use Rattle.row_image.specs.Layout.{cell_width, offset_of}
-use Rattle.row_image.specs.Flat.{is_long_in}
-use Rattle.row_image.proofs.ByteLemmas.{changes_joined, changes_none}
-use Rattle.row_image.proofs.LayoutLemmas.{offset_of_next, cell_ends}
+use Rattle.std.proofs.Common.{arith, ap, sym, ◌∙◌}
+use Rattle.row_image.specs.Layout.{cell_width}
+use Rattle.row_image.proofs.LayoutLemmas.{offset_of_next}
 use Rattle.row_image.proofs.MoveLemmas.{long_kind, long_ends}
 use Rattle.row_image.proofs.moves.move_cell.Goals as goal
 

@@ -1,8 +1,8 @@
-use Rattle.std.proofs.Common.{◌≡◌, ◌+◌, ◌<◌, ◌≤◌, get_or, length, arith, ap, sym, ◌∙◌, below_more}
+use Rattle.std.proofs.Common.{◌+◌, ◌<◌, get_or, length, arith, below_more}
 use Rattle.row_image.specs.declared.layout.CellKind.TheVariants.{Bit}
-use Rattle.row_image.specs.Layout.{cell_width, mask_bytes, offset_of, width_of}
+use Rattle.row_image.specs.Layout.{cell_width, mask_bytes, offset_of}
 use Rattle.row_image.proofs.ByteLemmas.{changes_joined, same_before, same_after}
-use Rattle.row_image.proofs.LayoutLemmas.{width_of_least, offset_of_least, offset_of_next, offset_of_most, cells_apart}
+use Rattle.row_image.proofs.LayoutLemmas.{offset_of_least, offset_of_next, offset_of_most, cells_apart}
 use Rattle.row_image.proofs.MoveLemmas.{moves_then, then_moves, reached_same}
 use Rattle.row_image.proofs.moves.move_row.Goals as goal
 

@@ -1,4 +1,4 @@
-use Rattle.std.proofs.Common.{◌≡◌, ◌<◌, ◌≤◌, ◌+◌, ℕ}
+use Rattle.std.proofs.Common.{◌<◌, ◌+◌, ℕ}
 use Rattle.row_image.specs.Bytes.{ChangesOnly}
 use Rattle.row_image.specs.Layout.{mask_bytes, offset_of}
 use Rattle.row_image.specs.Moves.{MovesCell}

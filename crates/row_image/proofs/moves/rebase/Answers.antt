@@ -1,17 +1,16 @@
-use Rattle.std.proofs.Common.{◌≡◌, ◌≢◌, ◌+◌, ◌*◌, ◌<◌, ◌≤◌, ℕ, length, arith, ap, sym, subst, inl, inr, ◌∙◌}
+use Rattle.std.proofs.Common.{◌≡◌, ◌+◌, ◌<◌, ℕ, length, arith, ap, sym, subst, inl, inr}
 use Rattle.std.proofs.lemmas.Bool.{cases_lt}
 use Rattle.row_image.specs.Layout.{row_place, width_of, mask_bytes}
-use Rattle.row_image.specs.Image.{row_count, part_count, part_at}
+use Rattle.row_image.specs.Image.{row_count, part_at}
 use Rattle.row_image.specs.Moves.{MovesRow, IsReached}
-use Rattle.row_image.proofs.ByteLemmas.{SameOn, changes_joined, same_before, same_after, same_within}
-use Rattle.row_image.proofs.LayoutLemmas.{first_place, width_of_least, cell_ends}
-use Rattle.row_image.proofs.AcceptedLemmas.{Sound, sound_of, row_lies}
-use Rattle.row_image.proofs.PartLemmas.{parts_set}
-use Rattle.row_image.proofs.PartFacts.{PartFacts, facts_of}
+use Rattle.row_image.proofs.ByteLemmas.{changes_joined, same_before, same_after, same_within}
+use Rattle.row_image.proofs.LayoutLemmas.{width_of_least}
+use Rattle.row_image.proofs.AcceptedLemmas.{sound_of, row_lies}
+use Rattle.row_image.proofs.PartFacts.{facts_of}
 use Rattle.row_image.proofs.WrittenLemmas.{rows_apart}
 use Rattle.row_image.proofs.WrittenAccepted.{parts_most, fit_most}
 use Rattle.row_image.proofs.MoveLemmas.{row_moves_then, then_row_moves, reached_same, cell_of_row}
-use Rattle.row_image.proofs.Rebased.{Rebased, reached, row_place_mono, counts_same, moved_part, other_parts, rebased_of, parts_moved}
+use Rattle.row_image.proofs.Rebased.{reached, row_place_mono, rebased_of, parts_moved}
 use Rattle.row_image.proofs.RebasedAccepted.{rebased_accepted}
 use Rattle.row_image.proofs.FlatLemmas.{rebased_flat}
 use Rattle.row_image.proofs.moves.rebase.Goals as goal

@@ -1,4 +1,4 @@
-use Rattle.std.proofs.Common.{◌≡◌, ◌<◌, ◌≤◌, ◌+◌, ℕ}
+use Rattle.std.proofs.Common.{◌<◌, ◌≤◌, ℕ}
 use Rattle.row_image.specs.Bytes.{ChangesOnly}
 use Rattle.row_image.specs.Layout.{row_place}
 use Rattle.row_image.specs.Moves.{MovesRow}

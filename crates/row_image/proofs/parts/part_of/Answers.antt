@@ -1,4 +1,4 @@
-use Rattle.std.proofs.Common.{◌≡◌, Some, arith, ap, sym, ◌∙◌}
+use Rattle.std.proofs.Common.{Some, arith, ap, sym, ◌∙◌}
 use Rattle.std.proofs.lemmas.Option.{slice_get-get_or}
 use Rattle.row_image.specs.Image.{no_part, parts_of}
 use Rattle.row_image.proofs.PartLemmas.{parts_length, parts_at}

@@ -28,15 +28,20 @@ write_row-requires-clause-meets c =
 
 pub write_row-requires-clause-heap : goal.write_row-requires-clause-heap
 write_row-requires-clause-heap c = record {
-  is = record { number = c.requires.number; aligned = ap (λ page. c.args.base % page) c.requires.page ∙ c.requires.aligned; low = omega arith; known = λ some e.
-    let image = c.args.image.now in
-    let parts : c.in-Ok.shape.parts ≡ part_count image = ap (λ shape. shape.parts) c.in-Ok.ensures.shape in
-    let last = last_is image (omega (arith, some, parts_length image)) in
-    elim c.else-shape-gt0.branch [
-      else-shape-gt0-via-then-shape-gt0+else-is_elsewhere w ↦
-        let entry : w.part_of.result ≡ last_part (parts_of image) = w.part_of.ensures.entry ∙ ap (λ n. part_at image (n - 1)) parts ∙ sym last in
-        sym (ap (λ part. part.base) entry) ∙ w.is_elsewhere.ensures w.if-is_elsewhere.false (ap (λ part. part.heap) entry ∙ e)
-    | else-shape-gt0-via-else-shape-gt0 w ↦ absurd (omega (arith, w.if-shape-gt0.false, parts, some, parts_length image))
-    ] };
-  each = λ column inside. one_lies (length c.args.image.now) c.args.number c.args.base column (omega arith) inside
+  is = record {
+    number = c.requires.number;
+    aligned = ap (λ page. c.args.base % page) c.requires.page ∙ c.requires.aligned;
+    low = omega arith;
+    known = λ some e.
+        let image = c.args.image.now in
+        let parts : c.in-Ok.shape.parts ≡ part_count image = ap (λ shape. shape.parts) c.in-Ok.ensures.shape in
+        let last = last_is image (omega (arith, some, parts_length image)) in
+        elim c.else-shape-gt0.branch [
+          | else-shape-gt0-via-then-shape-gt0+else-is_elsewhere w ↦
+              let entry : w.part_of.result ≡ last_part (parts_of image) = w.part_of.ensures.entry ∙ ap (λ n. part_at image (n - 1)) parts ∙ sym last in
+              sym (ap (λ part. part.base) entry) ∙ w.is_elsewhere.ensures w.if-is_elsewhere.false (ap (λ part. part.heap) entry ∙ e)
+          | else-shape-gt0-via-else-shape-gt0 w ↦ absurd (omega (arith, w.if-shape-gt0.false, parts, some, parts_length image))
+        ];
+  };
+  each = λ column inside. one_lies (length c.args.image.now) c.args.number c.args.base column (omega arith) inside;
 }

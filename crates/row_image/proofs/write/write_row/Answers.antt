@@ -1,13 +1,12 @@
-use Rattle.std.proofs.Common.{◌≡◌, ◌≢◌, ◌<◌, ◌≤◌, ◌+◌, ◌*◌, ℕ, length, true, false, cond, arith, ap, refl, sym, inl, inr, ◌∙◌}
-use Rattle.std.proofs.lemmas.Bool.{false≢true, not-true, cases_Bool}
-use Rattle.row_image.specs.Layout.{has_texts, row_place, width_of, rows_that_fit}
-use Rattle.row_image.specs.Image.{row_count, part_count, parts_of, rows_of}
-use Rattle.row_image.specs.Parts.{wanted, parts_with, begins_fifth}
+use Rattle.std.proofs.Common.{◌≡◌, ◌≢◌, length, false, arith, ap, refl, sym, inl, inr, ◌∙◌}
+use Rattle.std.proofs.lemmas.Bool.{false≢true, cases_Bool}
+use Rattle.row_image.specs.Layout.{row_place, rows_that_fit}
+use Rattle.row_image.specs.Image.{row_count, parts_of}
+use Rattle.row_image.specs.Parts.{wanted, begins_fifth}
 use Rattle.row_image.specs.Rules.{text_limit}
 use Rattle.row_image.proofs.ByteLemmas.{number_at_before}
 use Rattle.row_image.proofs.LayoutLemmas.{width_of_least}
 use Rattle.row_image.proofs.AcceptedLemmas.{sound_of, row_fits}
-use Rattle.row_image.proofs.PartLemmas.{parts_same}
 use Rattle.row_image.proofs.WrittenLemmas.{written_of, written_rows}
 use Rattle.row_image.proofs.WrittenAccepted.{written_accepted, fit_most}
 use Rattle.row_image.proofs.WrittenFlat.{written_flat}
