@@ -6,6 +6,7 @@ ghost use Rattle.row_image.specs.Cells.{Meets};
 ghost use Rattle.row_image.specs.Image.{row_count, part_count, rows_of, parts_of};
 ghost use Rattle.row_image.specs.Parts.{given_row, wanted, parts_with, begins_fifth, HoldsTexts};
 ghost use Rattle.row_image.specs.Rules.{text_limit, IsAccepted};
+ghost use Rattle.row_image.specs.Flat.{flat, given_flat};
 ghost use Rattle.row_image.specs.Stores.{StoresRow};
 ghost use Rattle.row_image.specs.declared.image.ImageKind.TheVariants.{Rows};
 
@@ -46,6 +47,8 @@ pub fn write_row(
 
     ensures accepted { IsAccepted (Rows layout.now) image.new }
     ensures rows { result ≡ RowPut.Wrote → rows_of layout.now image.new ≡ rows_of layout.now image.old ++ given_row cells.now hash ∷ [] }
+    ensures flat { result ≡ RowPut.Wrote → rows_of layout.now (flat (Rows layout.now) image.new) ≡ rows_of layout.now (flat (Rows layout.now) image.old) ++ given_flat cells.now hash heap ∷ [] }
+    ensures bytes { result ≡ RowPut.Wrote → StoresRow layout.now image.new (row_place layout.now (row_count image.old)) cells.now hash }
     ensures parts { result ≡ RowPut.Wrote → parts_of image.new ≡ (if has_texts layout.now then parts_with (parts_of image.old) (row_count image.old) (wanted cells.now heap) else parts_of image.old) }
 
     ensures page_full { (result ≡ RowPut.PageFull) ↔ (row_count image.old ≡ rows_that_fit layout.now (length image.old)) }
