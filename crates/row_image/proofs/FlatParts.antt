@@ -54,15 +54,18 @@ pub flat_part_at : (kinds : List CellKind) (image : List ℕ) (k : ℕ) → Rows
 unfolding part_at
 flat_part_at kinds image k h k_few there =
     let new = flat (Rows kinds) image in
-    let same : SameOn image new (32 + 24 * k) (48 + 24 * k) = record { long = flat_length kinds image h; same = λ i low high.
-        let e : i ≡ 32 + (24 * k + (i - (32 + 24 * k))) = omega arith in
-        ap (slice_index new) e ∙ flat_at_part kinds image k (i - (32 + 24 * k)) h k_few (omega arith) ∙ part_front image k (i - (32 + 24 * k)) h.page k_few (omega arith) ∙ ap (slice_index image) (let f : part_place k + (i - (32 + 24 * k)) ≡ i = omega arith in f) } in
+    let same : SameOn image new (32 + 24 * k) (48 + 24 * k) = record {
+      long = flat_length kinds image h;
+      same = λ i low high.
+          let e : i ≡ 32 + (24 * k + (i - (32 + 24 * k))) = omega arith in
+          ap (slice_index new) e ∙ flat_at_part kinds image k (i - (32 + 24 * k)) h k_few (omega arith) ∙ part_front image k (i - (32 + 24 * k)) h.page k_few (omega arith) ∙ ap (slice_index image) (let f : part_place k + (i - (32 + 24 * k)) ≡ i = omega arith in f);
+    } in
     let first = number_at_same image new (32 + 24 * k) (48 + 24 * k) same (32 + 24 * k) 4 (omega arith) (omega arith) in
     let rows = number_at_same image new (32 + 24 * k) (48 + 24 * k) same (32 + 24 * k + 4) 4 (omega arith) (omega arith) in
     let heap = number_at_same image new (32 + 24 * k) (48 + 24 * k) same (32 + 24 * k + 8) 4 (omega arith) (omega arith) in
     let base = number_at_zeros new (32 + 24 * k + 16) (32 + 24 * k + 24) (λ i low high.
-        let e : i ≡ 32 + (24 * k + (16 + (i - (48 + 24 * k)))) = omega arith in
-        ap (slice_index new) e ∙ flat_at_part kinds image k (16 + (i - (48 + 24 * k))) h k_few (omega arith) ∙ part_base image k (i - (48 + 24 * k)) h.page k_few there (omega arith)) (32 + 24 * k + 16) 8 (omega arith) (omega arith) in
+    let e : i ≡ 32 + (24 * k + (16 + (i - (48 + 24 * k)))) = omega arith in
+    ap (slice_index new) e ∙ flat_at_part kinds image k (16 + (i - (48 + 24 * k))) h k_few (omega arith) ∙ part_base image k (i - (48 + 24 * k)) h.page k_few there (omega arith)) (32 + 24 * k + 16) 8 (omega arith) (omega arith) in
     λ i. record { first = first i; rows = rows i; heap = heap i; base = base i }
 
 -- the first that passes, of two lists that differ only in what the test and the heap number don't see
@@ -71,7 +74,7 @@ found_heap p f g a zero d tests heaps = refl
 found_heap p f g a (suc n) d tests heaps =
     ap (λ b. (unwrap_or (cond b (Some (f a)) (find p (map f (range_with_len (a + 1) n)))) d).heap) (tests a (omega arith) (omega arith))
     ∙ by_test (p (g a)) (f a) (g a) (find p (map f (range_with_len (a + 1) n))) (find p (map g (range_with_len (a + 1) n))) d (heaps a (omega arith) (omega arith))
-      (found_heap p f g (a + 1) n d (λ k low high. tests k (omega arith) (omega arith)) (λ k low high. heaps k (omega arith) (omega arith)))
+    (found_heap p f g (a + 1) n d (λ k low high. tests k (omega arith) (omega arith)) (λ k low high. heaps k (omega arith) (omega arith)))
   where
     by_test : (b : Bool) (x y : Part) (xs ys : Option Part) (d : Part) → x.heap ≡ y.heap → (unwrap_or xs d).heap ≡ (unwrap_or ys d).heap → (unwrap_or (cond b (Some x) xs) d).heap ≡ (unwrap_or (cond b (Some y) ys) d).heap
     by_test true x y xs ys d h r = h
@@ -87,5 +90,5 @@ flat_heap kinds image row h few =
     let p = λ (part : Part). ltb row (part.first + part.rows) in
     ap (λ n. (unwrap_or (find p (map (λ k. part_at new k) (range_with_len 0 n))) no_part).heap) count
     ∙ found_heap p (λ k. part_at new k) (λ k. part_at image k) 0 (part_count image) no_part
-      (λ k low high. ap p (flat_part_at kinds image k h (omega arith) (omega arith)))
-      (λ k low high. ap (λ part. part.heap) (flat_part_at kinds image k h (omega arith) (omega arith)))
+    (λ k low high. ap p (flat_part_at kinds image k h (omega arith) (omega arith)))
+    (λ k low high. ap (λ part. part.heap) (flat_part_at kinds image k h (omega arith) (omega arith)))

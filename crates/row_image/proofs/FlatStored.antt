@@ -139,10 +139,10 @@ not_long_cell kinds image at column h =
     let kind = get_or kinds column Bit in
     let place = at + offset_of kinds column in
     elim (cases_Bool (is_null image at column)) [
-      inl null ↦ ap (λ b. is_long (cond b NullCell (cell_at kind image place))) null
-    | inr there ↦
-        let short : (is_text kind && ltb 12 (number_at image place 4)) ≡ false = sym (ap (λ b. not b && (is_text kind && ltb 12 (number_at image place 4))) there) ∙ h in
-        ap (λ b. is_long (cond b NullCell (cell_at kind image place))) there ∙ short_kind kind image place short
+      | inl null ↦ ap (λ b. is_long (cond b NullCell (cell_at kind image place))) null
+      | inr there ↦
+          let short : (is_text kind && ltb 12 (number_at image place 4)) ≡ false = sym (ap (λ b. not b && (is_text kind && ltb 12 (number_at image place 4))) there) ∙ h in
+          ap (λ b. is_long (cond b NullCell (cell_at kind image place))) there ∙ short_kind kind image place short
     ]
 
 -- a long text's cell

@@ -46,11 +46,11 @@ text_rows_flat kinds image heaps accepted page small =
     let row_of = λ (row : ℕ). let r : ValueRow = record { hash = stored_hash kinds new row; values = map (λ column. value_of (heaps (part_for new row).heap) (stored_cell kinds new row column)) (range_with_len 0 (length kinds)) } in r in
     ap (λ n. map row_of (range_with_len 0 n)) (flat_count kinds image lies)
     ∙ map_same row_of (λ row. text_row kinds image heaps row) (row_count image) (λ row below.
-      let hash = flat_hash kinds image row lies below in
-      let values = map_same (λ column. value_of (heaps (part_for new row).heap) (stored_cell kinds new row column)) (λ column. value_of (heaps (part_for image row).heap) (flattened (part_for image row).base (stored_cell kinds image row column))) (length kinds) (λ column inside.
-          ap (λ number. value_of (heaps number) (stored_cell kinds new row column)) (flat_heap kinds image row lies few)
-          ∙ ap (value_of (heaps (part_for image row).heap)) (flat_cell_in kinds image row column lies below inside (fit.fit row column below inside))) in
-      λ i. record { hash = hash i; values = values i })
+    let hash = flat_hash kinds image row lies below in
+    let values = map_same (λ column. value_of (heaps (part_for new row).heap) (stored_cell kinds new row column)) (λ column. value_of (heaps (part_for image row).heap) (flattened (part_for image row).base (stored_cell kinds image row column))) (length kinds) (λ column inside.
+    ap (λ number. value_of (heaps number) (stored_cell kinds new row column)) (flat_heap kinds image row lies few)
+    ∙ ap (value_of (heaps (part_for image row).heap)) (flat_cell_in kinds image row column lies below inside (fit.fit row column below inside))) in
+    λ i. record { hash = hash i; values = values i })
 
 any_heap : (cell : StoredCell) (bytes bytes' : List ℕ) (base base' : ℕ) → (is_long cell ≡ true → bytes ≡ bytes') → (is_long cell ≡ true → base ≡ base') → value_of bytes (flattened base cell) ≡ value_of bytes' (flattened base' cell)
 any_heap NullCell bytes bytes' base base' h b = refl
@@ -74,16 +74,16 @@ new_values kinds old new cells hash heap heaps w p meets holds =
     let H = λ (cell : CellIn). value_of (heap_of heaps heap) (flattened (base_of heap) (given_cell cell)) in
     same_lists (map G (range_with_len 0 (length kinds))) (map H cells) (length-map-range_with_len G 0 (length kinds) ∙ sym (length-map cells H ∙ meets.count))
     (λ k d below.
-      let inside : k < length kinds = omega (arith, length-map-range_with_len G 0 (length kinds), below) in
-      let counted : k < length cells = omega (arith, meets.count) in
-      let cell = given_cell (get_or cells k Null) in
-      let has : is_long cell ≡ true → (h : ℕ × ℕ) → heap ≡ Some h → HasHeap part h = λ long h e. p.held (text_column kinds k inside (long_is_text (get_or kinds k Bit) (text_limit (length old)) cell (meets.each k inside) long)) h (wanted_long cells heap k counted long ∙ e) in
-      get_or-map-range_with_len G 0 (length kinds) k k d inside (omega arith)
-      ∙ ap (λ stored. value_of (heaps part.heap) (flattened part.base stored)) (written_cell_in kinds (text_limit (length old)) new (row_place kinds (row_count old)) cells hash k w.row meets inside)
-      ∙ any_heap cell (heaps part.heap) (heap_of heaps heap) part.base (base_of heap)
-        (λ long. heap_bytes heaps heap part (length old) cell (holds.each k counted) long (has long))
-        (λ long. base_known heap part (length old) cell (holds.each k counted) long (has long))
-      ∙ sym (get_or-map H cells k Null d counted))
+    let inside : k < length kinds = omega (arith, length-map-range_with_len G 0 (length kinds), below) in
+    let counted : k < length cells = omega (arith, meets.count) in
+    let cell = given_cell (get_or cells k Null) in
+    let has : is_long cell ≡ true → (h : ℕ × ℕ) → heap ≡ Some h → HasHeap part h = λ long h e. p.held (text_column kinds k inside (long_is_text (get_or kinds k Bit) (text_limit (length old)) cell (meets.each k inside) long)) h (wanted_long cells heap k counted long ∙ e) in
+    get_or-map-range_with_len G 0 (length kinds) k k d inside (omega arith)
+    ∙ ap (λ stored. value_of (heaps part.heap) (flattened part.base stored)) (written_cell_in kinds (text_limit (length old)) new (row_place kinds (row_count old)) cells hash k w.row meets inside)
+    ∙ any_heap cell (heaps part.heap) (heap_of heaps heap) part.base (base_of heap)
+    (λ long. heap_bytes heaps heap part (length old) cell (holds.each k counted) long (has long))
+    (λ long. base_known heap part (length old) cell (holds.each k counted) long (has long))
+    ∙ sym (get_or-map H cells k Null d counted))
 
 -- a cell that isn't long doesn't look at a heap page
 short_value : (kinds : List CellKind) (image : List ℕ) (at column base base' : ℕ) (bytes bytes' : List ℕ) → is_long (cell_in kinds image at column) ≡ false → value_of bytes (flattened base (cell_in kinds image at column)) ≡ value_of bytes' (flattened base' (cell_in kinds image at column))
@@ -97,17 +97,17 @@ old_text_row kinds old new heaps row s below keeps h fits =
     let q = part_for old row in
     let hash = ap (λ r. r.hash) (stored_row_same kinds old new row h fits) in
     let values = map_same (λ column. value_of (heaps p.heap) (flattened p.base (stored_cell kinds new row column))) (λ column. value_of (heaps q.heap) (flattened q.base (stored_cell kinds old row column))) (length kinds) (λ column inside.
-        ap (λ cell. value_of (heaps p.heap) (flattened p.base cell)) (cell_in_same kinds old new at column h fits inside) ∙
-        elim (cases_Bool (is_long (cell_in kinds old at column))) [
-          inl long ↦
-            elim (cases_Bool (is_long_in kinds old at column)) [
-              inl long' ↦ let there = (long_fits kinds old row column (s.cell row column below inside) long').2 in
+    ap (λ cell. value_of (heaps p.heap) (flattened p.base cell)) (cell_in_same kinds old new at column h fits inside) ∙
+    elim (cases_Bool (is_long (cell_in kinds old at column))) [
+      | inl long ↦
+          elim (cases_Bool (is_long_in kinds old at column)) [
+            | inl long' ↦ let there = (long_fits kinds old row column (s.cell row column below inside) long').2 in
                 ap (λ number. value_of (heaps number) (flattened p.base (cell_in kinds old at column))) (keeps.heap there.heap)
                 ∙ ap (λ base. value_of (heaps q.heap) (flattened base (cell_in kinds old at column))) (keeps.base there.heap)
             | inr short' ↦ absurd (false≢true (sym (not_long_cell kinds old at column short') ∙ long))
-            ]
-        | inr short ↦ short_value kinds old at column p.base q.base (heaps p.heap) (heaps q.heap) short
-        ]) in
+          ]
+      | inr short ↦ short_value kinds old at column p.base q.base (heaps p.heap) (heaps q.heap) short
+    ]) in
     λ i. record { hash = hash i; values = values i }
 
 pub written_texts : (kinds : List CellKind) (old new : List ℕ) (cells : List CellIn) (hash : ℕ) (heap : Option (ℕ × ℕ)) (heaps : ℕ → List ℕ) → Written kinds old new cells hash heap → IsAccepted (Rows kinds) old → IsAccepted (Rows kinds) new → Meets kinds (text_limit (length old)) cells → HoldsTexts (length old) (parts_of old) cells heap → begins_fifth (parts_of old) (wanted cells heap) ≡ false → 4096 ≤ length old → length old ≤ 262144 →
@@ -124,6 +124,6 @@ written_texts kinds old new cells hash heap heaps w accepted accepted' meets hol
     ∙ map-range_with_len_more (λ row. text_row kinds new heaps row) 0 n n (omega arith)
     ∙ ap (λ row. map (λ r. text_row kinds new heaps r) (range_with_len 0 n) ++ row ∷ []) last
     ∙ ap (λ front. front ++ given_texts heaps cells hash heap ∷ []) (map_same (λ row. text_row kinds new heaps row) (λ row. text_row kinds old heaps row) n (λ row less.
-        let apart = rows_apart kinds row n less in
-        old_text_row kinds old new heaps row s less (p.keeps row less) (same_within old new 128 (row_place kinds n) (row_place kinds row) (row_place kinds row + width_of kinds) w.body (first_place kinds row) apart) (omega (arith, apart, lies.all)))
-      ∙ sym (text_rows_flat kinds old heaps accepted page small))
+    let apart = rows_apart kinds row n less in
+    old_text_row kinds old new heaps row s less (p.keeps row less) (same_within old new 128 (row_place kinds n) (row_place kinds row) (row_place kinds row + width_of kinds) w.body (first_place kinds row) apart) (omega (arith, apart, lies.all)))
+    ∙ sym (text_rows_flat kinds old heaps accepted page small))
