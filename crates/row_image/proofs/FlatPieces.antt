@@ -98,7 +98,7 @@ rows_laid kinds image h = record {
   next = λ k inside. omega (arith, row_place_next kinds k, first_place kinds k, flat_row_length kinds image k (row_within kinds image k h inside));
 }
 
-flat_part_length : (image : List ℕ) (part : ℕ) → 128 ≤ length image → part < 4 → length (flat_part image part) ≡ 24
+pub flat_part_length : (image : List ℕ) (part : ℕ) → 128 ≤ length image → part < 4 → length (flat_part image part) ≡ 24
 unfolding flat_part
 flat_part_length image part long inside =
     let at = part_place part in
@@ -112,10 +112,10 @@ flat_part_length image part long inside =
       | inr past ↦ ap (λ b. length front + length (cond b (replicate 8 0) back)) past ∙ omega (arith, first, second)
     ]
 
-parts_laid : (image : List ℕ) → 128 ≤ length image → Laid (λ part. flat_part image part) (λ part. 24 * part) 4
+pub parts_laid : (image : List ℕ) → 128 ≤ length image → Laid (λ part. flat_part image part) (λ part. 24 * part) 4
 parts_laid image long = record { first = refl; next = λ k inside. omega (arith, flat_part_length image k long inside) }
 
-head_length : (image : List ℕ) → 128 ≤ length image → length (take 32 image ++ flat_map (λ part. flat_part image part) (range_with_len 0 4)) ≡ 128
+pub head_length : (image : List ℕ) → 128 ≤ length image → length (take 32 image ++ flat_map (λ part. flat_part image part) (range_with_len 0 4)) ≡ 128
 head_length image long =
     length-append (take 32 image) (flat_map (λ part. flat_part image part) (range_with_len 0 4))
     ∙ omega (arith, length-take 32 image, pieces_length (λ part. flat_part image part) (λ part. 24 * part) 4 (parts_laid image long))

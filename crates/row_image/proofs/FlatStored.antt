@@ -15,6 +15,7 @@ use Rattle.row_image.specs.Bytes.{number_at, number_bytes}
 use Rattle.row_image.specs.Layout.{cell_width, is_text, mask_bytes, offset_of, row_place}
 use Rattle.row_image.specs.Cells.{NullCell, ShortCell, LongCell}
 use Rattle.row_image.specs.Image.{row_count, is_null, cell_at, cell_in, stored_cell, stored_hash, StoredRow, stored_row, rows_of, part_for}
+use Rattle.row_image.specs.Parts.{is_long}
 use Rattle.row_image.specs.Flat.{is_long_in, flat_cell, flat, flattened}
 use Rattle.row_image.proofs.ByteLemmas.{SameOn, number_at_same, slice_range_same}
 use Rattle.row_image.proofs.LayoutLemmas.{width_of_least, cell_ends, mask_holds}
@@ -122,6 +123,28 @@ short_in kinds image at base column h =
           ap (λ b. flattened base (cond b NullCell (cell_at kind image place))) there ∙ short_flattened kind image place base short ∙ sym (ap (λ b. cond b NullCell (cell_at kind image place)) there)
     ]
 
+short_kind : (kind : CellKind) (image : List ℕ) (at : ℕ) → (is_text kind && ltb 12 (number_at image at 4)) ≡ false → is_long (cell_at kind image at) ≡ false
+unfolding cell_at
+short_kind Bit image at h = refl
+short_kind Four image at h = refl
+short_kind Eight image at h = refl
+short_kind Sixteen image at h = refl
+short_kind Text image at h =
+    let size = number_at image at 4 in
+    ap (λ b. is_long (cond b (ShortCell (slice_range image (at + 4) (at + 4 + size))) (LongCell (slice_range image (at + 4) (at + 8)) size (number_at image (at + 8) 8)))) (le-leb size 12 (ltb-false 12 size h))
+
+pub not_long_cell : (kinds : List CellKind) (image : List ℕ) (at column : ℕ) → is_long_in kinds image at column ≡ false → is_long (cell_in kinds image at column) ≡ false
+unfolding cell_in is_long_in
+not_long_cell kinds image at column h =
+    let kind = get_or kinds column Bit in
+    let place = at + offset_of kinds column in
+    elim (cases_Bool (is_null image at column)) [
+      | inl null ↦ ap (λ b. is_long (cond b NullCell (cell_at kind image place))) null
+      | inr there ↦
+          let short : (is_text kind && ltb 12 (number_at image place 4)) ≡ false = sym (ap (λ b. not b && (is_text kind && ltb 12 (number_at image place 4))) there) ∙ h in
+          ap (λ b. is_long (cond b NullCell (cell_at kind image place))) there ∙ short_kind kind image place short
+    ]
+
 -- a long text's cell
 pub long_in : (kinds : List CellKind) (image : List ℕ) (at column : ℕ) → is_long_in kinds image at column ≡ true → cell_in kinds image at column ≡ LongCell (slice_range image (at + offset_of kinds column + 4) (at + offset_of kinds column + 8)) (number_at image (at + offset_of kinds column) 4) (number_at image (at + offset_of kinds column + 8) 8)
 unfolding cell_in is_long_in
@@ -173,6 +196,17 @@ flat_cell_in kinds image row column h below inside small =
           ∙ ap (λ cell. cond (is_null image at column) NullCell cell) (cell_at_same kind image new place (short_same kinds image row column h below inside short) (omega (arith, cell_ends kinds column inside)))
           ∙ sym (short_in kinds image at base column short)
     ]
+
+pub flat_hash : (kinds : List CellKind) (image : List ℕ) (row : ℕ) → RowsLie kinds image → row < row_count image → stored_hash kinds (flat (Rows kinds) image) row ≡ stored_hash kinds image row
+unfolding stored_hash
+flat_hash kinds image row h below =
+    let at = row_place kinds row in
+    number_at_same image (flat (Rows kinds) image) at (at + mask_bytes kinds + 8) (flat_same_row kinds image row h below) (at + mask_bytes kinds) 8 (omega arith) (omega arith)
+
+pub flat_count : (kinds : List CellKind) (image : List ℕ) → RowsLie kinds image → row_count (flat (Rows kinds) image) ≡ row_count image
+flat_count kinds image h =
+    let head : SameOn image (flat (Rows kinds) image) 0 32 = record { long = flat_length kinds image h; same = λ k low high. flat_at_head kinds image k h high } in
+    number_at_same image (flat (Rows kinds) image) 0 32 head 8 4 (omega arith) (omega arith)
 
 -- offsets are small
 pub record OffsetsFit (kinds : List CellKind) (image : List ℕ) : Type 0 where

@@ -20,3 +20,5 @@ pub mod FlatStored
 pub mod WrittenFlat
 pub mod PageLemmas
 pub mod Laws
+pub mod FlatParts
+pub mod WrittenTexts

@@ -51,14 +51,14 @@ any_base (NumberCell z) a b h = refl
 any_base (ShortCell text) a b h = refl
 any_base (LongCell prefix size address) a b h = ap (λ base. LongCell prefix size (address - base)) (h refl)
 
-base_known : (heap : Option (ℕ × ℕ)) (part : Part) (page : ℕ) (cell : StoredCell) → LiesOn page heap cell → is_long cell ≡ true → ((h : ℕ × ℕ) → heap ≡ Some h → HasHeap part h) → part.base ≡ base_of heap
+pub base_known : (heap : Option (ℕ × ℕ)) (part : Part) (page : ℕ) (cell : StoredCell) → LiesOn page heap cell → is_long cell ≡ true → ((h : ℕ × ℕ) → heap ≡ Some h → HasHeap part h) → part.base ≡ base_of heap
 base_known heap part page NullCell on long has = absurd (false≢true long)
 base_known heap part page (NumberCell z) on long has = absurd (false≢true long)
 base_known heap part page (ShortCell text) on long has = absurd (false≢true long)
 base_known None part page (LongCell prefix size address) on long has = absurd on
 base_known (Some heap) part page (LongCell prefix size address) on long has = (has heap refl).base
 
-long_is_text : (kind : CellKind) (limit : ℕ) (cell : StoredCell) → Takes kind limit cell → is_long cell ≡ true → kind ≡ Text
+pub long_is_text : (kind : CellKind) (limit : ℕ) (cell : StoredCell) → Takes kind limit cell → is_long cell ≡ true → kind ≡ Text
 long_is_text kind limit NullCell takes long = absurd (false≢true long)
 long_is_text kind limit (NumberCell z) takes long = absurd (false≢true long)
 long_is_text kind limit (ShortCell text) takes long = absurd (false≢true long)

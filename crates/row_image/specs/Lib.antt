@@ -8,3 +8,4 @@ pub mod Stores
 pub mod Parts
 pub mod Flat
 pub mod Moves
+pub mod Texts
