@@ -15,3 +15,4 @@ pub mod FormLemmas
 pub mod FormFound
 pub mod NameLemmas
 pub mod NamedLemmas
+pub mod StepLemmas

@@ -1,5 +1,5 @@
 //! One statement.
-ghost use Rattle.std.specs.Prelude.{◌≡◌, ◌≤◌, IfErr, IfOk, IfSome, Err};
+ghost use Rattle.std.specs.Prelude.{◌≡◌, ◌≢◌, ◌≤◌, [], IfErr, IfSome, Err};
 ghost use Rattle.std.specs.FinMap.{get};
 ghost use Rattle.ooc_io.specs.Counts.{Rose};
 ghost use Rattle.ooc_engine.specs.Catalog.{table_at};
@@ -70,6 +70,13 @@ fn read_file<F: Files>(
     }
 }
 
+// What a statement without a result prints.
+fn no_block(alloc: Global) -> Vec<u8>
+    ensures { result.items ≡ [] }
+{
+    Vec::new(alloc)
+}
+
 // A new table.
 fn create(
     alloc: Global,
@@ -79,6 +86,7 @@ fn create(
     catalog: &mut Catalog,
 ) -> Result<Vec<u8>, Status>
     ensures step { IsStep (created number catalog.old name.now columns.now (table_at catalog.old name.now)) catalog.new (result_items result) }
+    ensures no_read { result ≢ Err Status.ReadFault }
     ensures kinds { IfErr result IsOfFiles }
 {
     let name = small_letters(alloc, name.as_bytes())?;
@@ -89,7 +97,7 @@ fn create(
                 return Err(not_built(number));
             }
             catalog.push(name, Table::new_table(alloc, columns.clone()?))?;
-            Ok(Vec::new(alloc))
+            Ok(no_block(alloc))
         }
     }
 }
@@ -114,11 +122,13 @@ fn copy<F: Files>(
     if catalog.get(name.as_bytes()).is_none() {
         return Err(not_built(number));
     }
-    let bytes = read_file(alloc, number, files, file)?;
-    match catalog.load(alloc, name.as_bytes(), bytes.as_slice()) {
-        Ok(()) => Ok(Vec::new(alloc)),
-        Err(FormStop::NotBuilt) => Err(not_built(number)),
-        Err(FormStop::OutOfMemory) => Err(Status::OutOfMemory),
+    match read_file(alloc, number, files, file) {
+        Ok(bytes) => match catalog.load(alloc, name.as_bytes(), bytes.as_slice()) {
+            Ok(()) => Ok(no_block(alloc)),
+            Err(FormStop::NotBuilt) => Err(not_built(number)),
+            Err(FormStop::OutOfMemory) => Err(Status::OutOfMemory),
+        },
+        Err(status) => Err(status),
     }
 }
 
@@ -142,6 +152,7 @@ fn choose(
     catalog: &Catalog,
 ) -> Result<Vec<u8>, Status>
     ensures step { IsStep (selected number catalog.now names.now filter.now (table_at catalog.now name.now)) catalog.now (result_items result) }
+    ensures no_read { result ≢ Err Status.ReadFault }
     ensures kinds { IfErr result IsOfFiles }
 {
     let name = small_letters(alloc, name.as_bytes())?;

@@ -132,9 +132,15 @@ pub fn have_columns(columns: &[Column], names: &[Text]) -> bool
     names.iter().all(|name| has_column(columns, name.as_bytes()))
 }
 
+fn are_plain(columns: &[Column]) -> bool
+    ensures { result ≡ list_all is_plain columns.now }
+{
+    columns.iter().all(|column| is_plain(column))
+}
+
 /// Whether there are 1 to 64 columns of the form's types.
 pub fn is_table(columns: &[Column]) -> bool
     ensures { result ≡ is_table columns.now }
 {
-    is_count(columns.len()) && columns.iter().all(|column| is_plain(column))
+    is_count(columns.len()) && are_plain(columns)
 }

@@ -1,14 +1,13 @@
 -- What it says that no rule of a row page fails, rule by rule.
-use Rattle.std.proofs.Common.{◌≡◌, ℕ, ◌+◌, ◌*◌, ◌-◌, ◌/◌, ◌<◌, ◌≤◌, Bool, true, false, cond, eqb, leb, ltb, List, [], ◌∷◌, ◌++◌, length, Option, Some, None, refl, sym, ap, ◌∙◌, arith}
+use Rattle.std.proofs.Common.{◌≡◌, ℕ, ◌+◌, ◌*◌, ◌-◌, ◌/◌, ◌<◌, ◌≤◌, true, cond, eqb, leb, List, [], ◌∷◌, ◌++◌, length, None, refl, ◌∙◌, arith}
 use Rattle.std.specs.Prelude.{◌&&◌}
 use Rattle.std.specs.List.{range_with_len, flat_map}
 use Rattle.std.proofs.lemmas.Bool.{eqb-true, leb-true, eq-eqb, le-leb}
 use Rattle.std.proofs.lemmas.Nat.{div-add-mod', mul-le}
 use Rattle.row_image.specs.declared.layout.CellKind.{CellKind}
-use Rattle.row_image.specs.declared.image.ImageKind.{ImageKind}
 use Rattle.row_image.specs.declared.image.ImageKind.TheVariants.{Rows}
 use Rattle.row_image.specs.Bytes.{number_at}
-use Rattle.row_image.specs.Layout.{width_of, rows_that_fit, offset_of, row_place}
+use Rattle.row_image.specs.Layout.{width_of, rows_that_fit, row_place}
 use Rattle.row_image.specs.Image.{row_count, part_count}
 use Rattle.row_image.specs.Rules.{Rule, first_damage, kind_rule, width_rule, rows_rule, parts_rule, head_rules, part_rules, cell_rules, row_rules, rules_of, needs_parts, IsAccepted}
 use Rattle.row_image.proofs.RuleLemmas.{sound_cons, cons_sound, append_next, sound_front, sound_back, each_sound, sound_at}

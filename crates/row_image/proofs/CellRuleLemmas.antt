@@ -1,7 +1,7 @@
 -- The rules of a cell: they speak of its own bytes and of the heap page of its part.
-use Rattle.std.proofs.Common.{◌≡◌, ◌≢◌, ℕ, zero, suc, ◌+◌, ◌*◌, ◌-◌, ◌<◌, ◌≤◌, ◌≤ℤ◌, Bool, true, false, not, cond, eqb, leb, List, [], ◌∷◌, length, get_or, ℤ, Option, Some, None, refl, sym, ap, ◌∙◌, arith, inl, inr, pos}
-use Rattle.std.specs.Prelude.{◌&&◌, slice_index, slice_range, find, unwrap_or}
-use Rattle.std.proofs.lemmas.Bool.{eqb-true, leb-true, leb-false, eq-eqb, eqb-false, ne_eqb, le-leb, lt-leb, and_parts, and_from, not-true}
+use Rattle.std.proofs.Common.{◌≡◌, ◌≢◌, ℕ, ◌+◌, ◌<◌, ◌≤◌, ◌≤ℤ◌, true, false, not, cond, eqb, leb, ltb, List, [], ◌∷◌, length, get_or, ℤ, None, refl, sym, ap, ◌∙◌, arith, inl, inr, pos}
+use Rattle.std.specs.Prelude.{◌&&◌, slice_index, slice_range, unwrap_or}
+use Rattle.std.proofs.lemmas.Bool.{leb-true, eq-eqb, eqb-false, ne_eqb, le-leb, lt-leb, ltb-false, and_parts, and_from, not-true}
 use Rattle.std.proofs.lemmas.Bool.Decides.{leb_tells}
 use Rattle.std.proofs.lemmas.Int.{ints}
 use Rattle.std.proofs.lemmas.List.Edits.{length-between, get_or-between}
@@ -13,7 +13,7 @@ use Rattle.row_image.specs.Layout.{cell_width, is_text}
 use Rattle.row_image.specs.Cells.{StoredCell, NullCell, NumberCell, ShortCell, LongCell, Takes}
 use Rattle.row_image.specs.Image.{cell_at, text_at, no_heap}
 use Rattle.row_image.specs.Stores.{StoresAt}
-use Rattle.row_image.specs.Rules.{first_damage, text_limit, Rule, bit_rule, size_rule, first_set, pad_rule, address_rule, text_rule, text_rules, kind_rules}
+use Rattle.row_image.specs.Rules.{first_damage, text_limit, bit_rule, size_rule, first_set, pad_rule, address_rule, text_rule, text_rules, kind_rules}
 use Rattle.row_image.proofs.ByteLemmas.{SameOn, number_at_same, slice_range_same}
 use Rattle.row_image.proofs.ListLemmas.{find_none}
 use Rattle.row_image.proofs.RuleLemmas.{sound_cons, cons_sound}
@@ -141,3 +141,58 @@ kind_rules_stored Four image at part (LongCell prefix size address) fits page th
 kind_rules_stored Eight image at part (LongCell prefix size address) fits page there takes stored lies = absurd takes
 kind_rules_stored Sixteen image at part (LongCell prefix size address) fits page there takes stored lies = absurd takes
 kind_rules_stored Text image at part (LongCell prefix size address) fits page there takes stored lies = long_stored image at (number_at image at 4) part prefix size address stored takes.1 (lies refl)
+
+-- what the rule on an address says
+pub record AddressFits (page size address : ℕ) (part : Part) : Type 0 where
+  pub heap : part.heap ≢ no_heap
+  pub low : part.base + 64 ≤ address
+  pub high : address + size ≤ part.base + page
+
+pub address_fits : (page size address : ℕ) (part : Part) → (address_rule page size address part).holds ≡ true → AddressFits page size address part
+address_fits page size address part h =
+    let both = and_parts (not (eqb part.heap no_heap)) (leb (part.base + 64) address && leb (address + size) (part.base + page)) h in
+    let ends = and_parts (leb (part.base + 64) address) (leb (address + size) (part.base + page)) both.1 in
+    record {
+      heap = λ e. eqb-false part.heap no_heap (not-true (eqb part.heap no_heap) both.0) e;
+      low = leb-true _ _ ends.0;
+      high = leb-true _ _ ends.1;
+    }
+
+pub address_holds : (page size address : ℕ) (part : Part) → AddressFits page size address part → (address_rule page size address part).holds ≡ true
+address_holds page size address part f =
+    and_from (not (eqb part.heap no_heap)) (leb (part.base + 64) address && leb (address + size) (part.base + page)) (ap not (ne_eqb part.heap no_heap f.heap))
+    (and_from (leb (part.base + 64) address) (leb (address + size) (part.base + page)) (le-leb _ _ f.low) (le-leb _ _ f.high))
+
+-- the rules of a long text
+pub long_rules : (image : List ℕ) (at : ℕ) (part : Part) → 12 < number_at image at 4 → first_damage (kind_rules Text image at part) ≡ None → (number_at image at 4 ≤ text_limit (length image)) × AddressFits (length image) (number_at image at 4) (number_at image (at + 8) 8) part
+unfolding kind_rules
+long_rules image at part long h =
+    let size = number_at image at 4 in
+    let first = sound_cons (size_rule (length image) size) (text_rule image at size part ∷ []) h in
+    let second = sound_cons (text_rule image at size part) [] first.1 in
+    let fails : leb size 12 ≡ false = lt-leb size 12 long in (
+      leb-true size (text_limit (length image)) first.0,
+      address_fits (length image) size (number_at image (at + 8) 8) part (sym (ap (λ b. (cond b (pad_rule (slice_range image (at + 4 + size) (at + 16))) (address_rule (length image) size (number_at image (at + 8) 8) part)).holds) fails) ∙ second.0),
+    )
+
+pub rules_long : (image : List ℕ) (at : ℕ) (part : Part) → 12 < number_at image at 4 → number_at image at 4 ≤ text_limit (length image) → AddressFits (length image) (number_at image at 4) (number_at image (at + 8) 8) part → first_damage (kind_rules Text image at part) ≡ None
+unfolding kind_rules
+rules_long image at part long most f =
+    let size = number_at image at 4 in
+    let fails : leb size 12 ≡ false = lt-leb size 12 long in
+    cons_sound (size_rule (length image) size) (text_rule image at size part ∷ []) (le-leb size (text_limit (length image)) most)
+    (cons_sound (text_rule image at size part) []
+    (ap (λ b. (cond b (pad_rule (slice_range image (at + 4 + size) (at + 16))) (address_rule (length image) size (number_at image (at + 8) 8) part)).holds) fails ∙ address_holds (length image) size (number_at image (at + 8) 8) part f) refl)
+
+-- the rules of a cell that isn't a long text don't speak of its part
+pub short_rules : (kind : CellKind) (image : List ℕ) (at : ℕ) (old new : Part) → (is_text kind && ltb 12 (number_at image at 4)) ≡ false → kind_rules kind image at new ≡ kind_rules kind image at old
+unfolding kind_rules
+short_rules Bit image at old new h = refl
+short_rules Four image at old new h = refl
+short_rules Eight image at old new h = refl
+short_rules Sixteen image at old new h = refl
+short_rules Text image at old new h =
+    let size = number_at image at 4 in
+    let short : leb size 12 ≡ true = le-leb size 12 (ltb-false 12 size h) in
+    ap (λ b. size_rule (length image) size ∷ cond b (pad_rule (slice_range image (at + 4 + size) (at + 16))) (address_rule (length image) size (number_at image (at + 8) 8) new) ∷ []) short
+    ∙ sym (ap (λ b. size_rule (length image) size ∷ cond b (pad_rule (slice_range image (at + 4 + size) (at + 16))) (address_rule (length image) size (number_at image (at + 8) 8) old) ∷ []) short)

@@ -1,15 +1,15 @@
 -- The parts after a row was written: their rules hold, and each row's part keeps its heap page.
-use Rattle.std.proofs.Common.{◌≡◌, ◌≢◌, ℕ, zero, suc, ◌+◌, ◌*◌, ◌-◌, ◌%◌, ◌^◌, ◌<◌, ◌≤◌, Bool, true, false, not, cond, eqb, leb, ltb, List, [], ◌∷◌, ◌++◌, length, get_or, set, Option, Some, None, refl, sym, ap, subst, ◌∙◌, arith, inl, inr}
-use Rattle.std.specs.Prelude.{◌&&◌, ◌||◌, IfSome}
+use Rattle.std.proofs.Common.{◌≡◌, ◌≢◌, ℕ, ◌+◌, ◌-◌, ◌%◌, ◌^◌, ◌<◌, true, false, cond, eqb, ltb, List, [], ◌∷◌, ◌++◌, length, get_or, set, Option, Some, None, refl, sym, ap, subst, ◌∙◌, arith, inl, inr}
+use Rattle.std.specs.Prelude.{◌&&◌, IfSome}
 use Rattle.std.proofs.lemmas.Bool.{eqb-true, eq-eqb, ne_eqb, lt-ltb, and_from, or_cases, cases_eq, cases_lt, cases_Bool}
 use Rattle.std.proofs.lemmas.List.{length-set, get_or-set_same, get_or-set_other, length_push, get_or_push, get_or_append_left}
 use Rattle.row_image.specs.declared.image.Part.{Part}
 use Rattle.row_image.specs.Image.{row_count, part_count, part_at, parts_of, part_for, no_heap, no_part}
-use Rattle.row_image.specs.Parts.{last_part, takes_row, joins, grown, begun, parts_with, begins_fifth, IsHeap}
+use Rattle.row_image.specs.Parts.{last_part, takes_row, joins, grown, begun, parts_with, IsHeap}
 use Rattle.row_image.specs.Rules.{rows_before}
 use Rattle.row_image.proofs.CellRuleLemmas.{KeepsHeap}
 use Rattle.row_image.proofs.PartLemmas.{parts_length, parts_at, last_is, joins_some, joins_counted}
-use Rattle.row_image.proofs.PartFacts.{HasBase, PartFacts, before_none, before_next, before_same, before_mono, part_for_is, Covers, covered}
+use Rattle.row_image.proofs.PartFacts.{HasBase, PartFacts, before_none, before_next, before_same, part_for_is, covered}
 
 -- the row joined the last part
 pub record Joined (old new : List ℕ) (want : Option (ℕ × ℕ)) : Type 0 where

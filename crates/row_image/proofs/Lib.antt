@@ -10,3 +10,15 @@ pub mod CellRuleLemmas
 pub mod GrownLemmas
 pub mod WrittenLemmas
 pub mod WrittenAccepted
+pub mod MoveLemmas
+pub mod Rebased
+pub mod RebasedAccepted
+pub mod FlatLemmas
+pub mod PieceLemmas
+pub mod FlatPieces
+pub mod FlatStored
+pub mod WrittenFlat
+pub mod PageLemmas
+pub mod Laws
+pub mod FlatParts
+pub mod WrittenTexts

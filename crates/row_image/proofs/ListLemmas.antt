@@ -1,7 +1,7 @@
 -- Lists that a function makes of 0, 1, .. below a number, and the first element that passes a test.
-use Rattle.std.proofs.Common.{◌≡◌, ℕ, zero, suc, ◌+◌, ◌-◌, ◌<◌, ◌≤◌, Bool, true, false, cond, List, [], ◌∷◌, ◌++◌, length, get_or, set, map, Option, Some, None, ◌⊎◌, inl, inr, refl, sym, ap, ◌∙◌, arith}
+use Rattle.std.proofs.Common.{◌≡◌, ℕ, zero, suc, ◌+◌, ◌<◌, ◌≤◌, Bool, true, false, cond, List, [], ◌∷◌, ◌++◌, length, get_or, set, map, Option, Some, None, ◌⊎◌, inl, inr, refl, ap, ◌∙◌, arith}
 use Rattle.std.specs.Prelude.{find}
-use Rattle.std.specs.List.{range_with_len}
+use Rattle.std.specs.List.{range_with_len, flat_map}
 
 map_from : {X : Type 0} (f g : ℕ → X) (a n : ℕ) → ((k : ℕ) → a ≤ k → k < a + n → f k ≡ g k) → map f (range_with_len a n) ≡ map g (range_with_len a n)
 map_from f g a zero h = refl
@@ -10,6 +10,14 @@ map_from f g a (suc n) h =
 
 pub map_same : {X : Type 0} (f g : ℕ → X) (n : ℕ) → ((k : ℕ) → k < n → f k ≡ g k) → map f (range_with_len 0 n) ≡ map g (range_with_len 0 n)
 map_same f g n h = map_from f g 0 n (λ k low high. h k (omega arith))
+
+flat_from : {X : Type 0} (F G : ℕ → List X) (a n : ℕ) → ((k : ℕ) → a ≤ k → k < a + n → F k ≡ G k) → flat_map F (range_with_len a n) ≡ flat_map G (range_with_len a n)
+flat_from F G a zero h = refl
+flat_from F G a (suc n) h =
+    ap (λ xs. xs ++ flat_map F (range_with_len (a + 1) n)) (h a (omega arith) (omega arith)) ∙ ap (λ xs. G a ++ xs) (flat_from F G (a + 1) n (λ k low high. h k (omega arith) (omega arith)))
+
+pub flat_map_same : {X : Type 0} (F G : ℕ → List X) (n : ℕ) → ((k : ℕ) → k < n → F k ≡ G k) → flat_map F (range_with_len 0 n) ≡ flat_map G (range_with_len 0 n)
+flat_map_same F G n h = flat_from F G 0 n (λ k low high. h k (omega arith))
 
 -- the first that passes, where the ones before don't
 pub find_at : {X : Type 0} (p : X → Bool) (xs : List X) (k : ℕ) (d : X) → k < length xs → ((j : ℕ) → j < k → p (get_or xs j d) ≡ false) → p (get_or xs k d) ≡ true → find p xs ≡ Some (get_or xs k d)

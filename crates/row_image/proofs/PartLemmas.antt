@@ -1,11 +1,11 @@
 -- The parts of a page, one by one.
-use Rattle.std.proofs.Common.{◌≡◌, ◌≢◌, ℕ, zero, suc, ◌+◌, ◌*◌, ◌-◌, ◌<◌, ◌≤◌, Bool, true, false, not, eqb, List, [], ◌∷◌, ◌++◌, length, get_or, set, map, Option, refl, sym, ap, ◌∙◌, arith, inl, inr}
+use Rattle.std.proofs.Common.{◌≡◌, ◌≢◌, ℕ, ◌+◌, ◌*◌, ◌-◌, ◌<◌, ◌≤◌, true, false, not, eqb, List, [], ◌∷◌, ◌++◌, length, get_or, set, map, Option, sym, ap, ◌∙◌, arith, inl, inr}
 use Rattle.std.specs.List.{range_with_len}
 use Rattle.std.proofs.lemmas.Bool.{cases_eq, cases_lt, lt-ltb, ne_eqb, false≢true, and_right}
 use Rattle.std.proofs.lemmas.List.{same_lists, length-set, get_or-set_same, get_or-set_other}
 use Rattle.std.proofs.lemmas.List.FromFn.{length-map-range_with_len, get_or-map-range_with_len, map-range_with_len_more}
 use Rattle.row_image.specs.declared.image.Part.{Part}
-use Rattle.row_image.specs.Bytes.{number_at, ChangesOnly}
+use Rattle.row_image.specs.Bytes.{ChangesOnly}
 use Rattle.row_image.specs.Image.{part_count, part_at, parts_of, no_part}
 use Rattle.std.specs.Prelude.{◌&&◌, nat_lt}
 use Rattle.row_image.specs.Parts.{last_part, takes_row, joins, grown, begun, parts_with, begins_fifth}

@@ -1,5 +1,5 @@
 -- The bytes of a cell that was written.
-use Rattle.std.proofs.Common.{◌≡◌, ℕ, zero, suc, ◌+◌, ◌*◌, ◌-◌, ◌/◌, ◌%◌, ◌^◌, ◌<◌, ◌≤◌, Bool, true, false, cond, leb, List, length, get_or, take, drop, refl, sym, ap, inl, inr, ◌∙◌, arith, pos, to_z}
+use Rattle.std.proofs.Common.{◌≡◌, ℕ, zero, suc, ◌+◌, ◌*◌, ◌/◌, ◌%◌, ◌<◌, ◌≤◌, List, length, refl, ap, inl, inr, ◌∙◌, arith, pos, to_z}
 use Rattle.std.specs.Prelude.{slice_range, slice_index}
 use Rattle.std.specs.Int.{bit_at, w32, w64, w128}
 use Rattle.std.proofs.lemmas.Bool.{le-leb, lt-leb}
@@ -9,7 +9,7 @@ use Rattle.std.proofs.lemmas.List.Edits.{length-between, get_or-between}
 use Rattle.std.proofs.lemmas.Nat.Bits.{bit_at_lowest, bit_at-suc}
 use Rattle.row_image.specs.declared.layout.CellKind.{CellKind}
 use Rattle.row_image.specs.declared.layout.CellKind.TheVariants.{Bit, Four, Eight, Sixteen, Text}
-use Rattle.row_image.specs.Bytes.{number_at, ChangesOnly}
+use Rattle.row_image.specs.Bytes.{number_at}
 use Rattle.row_image.specs.Layout.{cell_width}
 use Rattle.row_image.specs.Cells.{StoredCell, NullCell, NumberCell, ShortCell, LongCell, Takes}
 use Rattle.row_image.specs.Image.{cell_at, text_at}

@@ -1,25 +1,23 @@
 -- A page is accepted again after a row was written.
-use Rattle.std.proofs.Common.{◌≡◌, ◌≢◌, ℕ, zero, suc, ◌+◌, ◌*◌, ◌-◌, ◌/◌, ◌<◌, ◌≤◌, Bool, true, false, not, cond, eqb, leb, ltb, List, [], length, get_or, Option, Some, None, refl, sym, ap, subst, ◌∙◌, arith, inl, inr}
+use Rattle.std.proofs.Common.{◌≡◌, ◌≢◌, ℕ, ◌+◌, ◌-◌, ◌/◌, ◌<◌, ◌≤◌, Bool, true, false, not, cond, eqb, leb, ltb, List, [], length, get_or, Option, Some, None, sym, ap, subst, ◌∙◌, arith, inl, inr}
 use Rattle.std.specs.Prelude.{◌&&◌, ◌==◌, IfSome, find, unwrap_or}
 use Rattle.std.specs.List.{list_any}
-use Rattle.std.proofs.lemmas.Bool.{eqb-true, eqb-false, leb-true, le-leb, lt-ltb, eq-eqb, and_parts, and_from, and_cases, cases_lt, cases_eq, cases_Bool, false≢true, not-false, true≢false}
+use Rattle.std.proofs.lemmas.Bool.{eqb-true, eqb-false, leb-true, le-leb, lt-ltb, eq-eqb, and_parts, and_from, and_cases, cases_lt, cases_Bool, false≢true, not-false}
 use Rattle.std.proofs.lemmas.List.Folds.{list_any_at}
 use Rattle.std.proofs.lemmas.Nat.{mul-le, div-add-mod'}
 use Rattle.row_image.specs.declared.layout.CellKind.{CellKind}
 use Rattle.row_image.specs.declared.layout.CellKind.TheVariants.{Bit, Text}
 use Rattle.row_image.specs.declared.cell.CellIn.{CellIn}
 use Rattle.row_image.specs.declared.cell.CellIn.TheVariants.{Null}
-use Rattle.row_image.specs.declared.image.Part.{Part}
 use Rattle.row_image.specs.declared.image.ImageKind.TheVariants.{Rows}
 use Rattle.row_image.specs.Bytes.{number_at}
 use Rattle.row_image.specs.Layout.{cell_width, is_text, offset_of, width_of, has_texts, rows_that_fit, row_place}
-use Rattle.row_image.specs.Cells.{StoredCell, NullCell, given_cell, null_number, Takes, Meets}
-use Rattle.row_image.specs.Image.{row_count, part_count, is_null, part_at, parts_of, part_for, no_heap, no_part}
+use Rattle.row_image.specs.Cells.{given_cell, Takes, Meets}
+use Rattle.row_image.specs.Image.{row_count, part_count, is_null, parts_of, part_for, no_part}
 use Rattle.row_image.specs.Parts.{is_long, wanted, joins, parts_with, begins_fifth, IsHeap, HoldsTexts}
 use Rattle.row_image.specs.Rules.{first_damage, text_limit, needs_parts, kind_rules, cell_rules, IsAccepted}
-use Rattle.row_image.specs.Stores.{StoresRow}
 use Rattle.row_image.proofs.ByteLemmas.{SameOn, number_at_same, same_within}
-use Rattle.row_image.proofs.LayoutLemmas.{width_of_least, offset_of_least, cell_ends, first_place}
+use Rattle.row_image.proofs.LayoutLemmas.{width_of_least, cell_ends, first_place}
 use Rattle.row_image.proofs.AcceptedLemmas.{HasParts, Sound, sound_of, accepted_of, row_fits}
 use Rattle.row_image.proofs.CellRuleLemmas.{KeepsHeap, LiesIn, kind_rules_same, kind_rules_moved, kind_rules_stored}
 use Rattle.row_image.proofs.PartLemmas.{parts_length}
@@ -66,7 +64,7 @@ few_parts old new row want (began w) most room =
       | inr other ↦ let ne : length (parts_of old) ≢ 4 = eqb-false (length (parts_of old)) 4 other in (omega (arith, w.count), omega (arith, w.count, parts_length old, ne))
     ]
 
-text_column : (kinds : List CellKind) (column : ℕ) → column < length kinds → get_or kinds column Bit ≡ Text → has_texts kinds ≡ true
+pub text_column : (kinds : List CellKind) (column : ℕ) → column < length kinds → get_or kinds column Bit ≡ Text → has_texts kinds ≡ true
 unfolding has_texts
 text_column kinds column inside e = list_any_at is_text kinds column Bit inside (ap is_text e)
 
@@ -124,7 +122,7 @@ parts_after kinds old new cells hash heap w s is room =
       | inr none ↦ parts_after_none kinds old new cells hash heap w s none
     ]
 
-old_cell : (kinds : List CellKind) (old new : List ℕ) (row column : ℕ) → KeepsHeap (part_for old row) (part_for new row) → SameOn old new (row_place kinds row) (row_place kinds row + width_of kinds) → row_place kinds row + width_of kinds ≤ length old → column < length kinds → first_damage (cell_rules kinds old row column) ≡ None → first_damage (cell_rules kinds new row column) ≡ None
+pub old_cell : (kinds : List CellKind) (old new : List ℕ) (row column : ℕ) → KeepsHeap (part_for old row) (part_for new row) → SameOn old new (row_place kinds row) (row_place kinds row + width_of kinds) → row_place kinds row + width_of kinds ≤ length old → column < length kinds → first_damage (cell_rules kinds old row column) ≡ None → first_damage (cell_rules kinds new row column) ≡ None
 unfolding cell_rules
 old_cell kinds old new row column keeps h fits inside sound =
     let at = row_place kinds row in

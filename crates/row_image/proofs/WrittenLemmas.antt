@@ -1,35 +1,31 @@
 -- What a page is after a row was written.
-use Rattle.std.proofs.Common.{◌≡◌, ◌≢◌, ℕ, zero, suc, ◌+◌, ◌*◌, ◌-◌, ◌/◌, ◌%◌, ◌<◌, ◌≤◌, Bool, true, false, not, cond, eqb, leb, ltb, List, [], ◌∷◌, ◌++◌, length, get_or, map, Option, Some, None, pos, refl, sym, ap, subst, ◌∙◌, arith, inl, inr}
-use Rattle.std.specs.Prelude.{◌&&◌, ◌==◌, IfSome, slice_index}
-use Rattle.std.specs.List.{range_with_len, list_any}
+use Rattle.std.proofs.Common.{◌≡◌, ◌≢◌, ℕ, ◌+◌, ◌*◌, ◌/◌, ◌%◌, ◌<◌, ◌≤◌, Bool, true, false, cond, List, [], ◌∷◌, ◌++◌, length, get_or, map, Option, Some, None, pos, refl, sym, ap, subst, ◌∙◌, arith}
+use Rattle.std.specs.Prelude.{◌==◌, IfSome, slice_index}
+use Rattle.std.specs.List.{range_with_len}
 use Rattle.std.specs.Int.{bit_at}
-use Rattle.std.proofs.lemmas.Bool.{eqb-true, leb-true, le-leb, lt-ltb, eq-eqb, and_parts, and_from, and_cases, cases_lt, cases_Bool, false≢true, not-false}
 use Rattle.std.proofs.lemmas.List.{same_lists, length-map, get_or-map, get_or_default}
 use Rattle.std.proofs.lemmas.List.Folds.{list_any_at}
 use Rattle.std.proofs.lemmas.List.FromFn.{length-map-range_with_len, get_or-map-range_with_len, map-range_with_len_more}
 use Rattle.std.proofs.lemmas.Nat.{mul-le}
 use Rattle.row_image.specs.declared.layout.CellKind.{CellKind}
-use Rattle.row_image.specs.declared.layout.CellKind.TheVariants.{Bit, Text}
+use Rattle.row_image.specs.declared.layout.CellKind.TheVariants.{Bit}
 use Rattle.row_image.specs.declared.cell.CellIn.{CellIn}
 use Rattle.row_image.specs.declared.cell.CellIn.TheVariants.{Null, Number}
 use Rattle.row_image.specs.declared.image.Part.{Part}
-use Rattle.row_image.specs.declared.image.ImageKind.TheVariants.{Rows}
-use Rattle.row_image.specs.Bytes.{number_at, ChangesOnly}
-use Rattle.row_image.specs.Layout.{cell_width, is_text, mask_bytes, offset_of, width_of, has_texts, rows_that_fit, row_place}
-use Rattle.row_image.specs.Cells.{StoredCell, NullCell, NumberCell, ShortCell, LongCell, given_cell, null_number, null_bit, Takes, Meets}
-use Rattle.row_image.specs.Image.{row_count, part_count, is_null, cell_at, cell_in, stored_cell, stored_hash, StoredRow, stored_row, rows_of, part_at, parts_of, part_for, no_heap, no_part}
-use Rattle.row_image.specs.Parts.{given_row, is_long, wanted, joins, parts_with, begins_fifth, IsHeap, LiesOn, HoldsTexts}
-use Rattle.row_image.specs.Rules.{Rule, first_damage, text_limit, needs_parts, kind_rules, cell_rules, IsAccepted}
+use Rattle.row_image.specs.Bytes.{ChangesOnly}
+use Rattle.row_image.specs.Layout.{cell_width, mask_bytes, offset_of, width_of, has_texts, row_place}
+use Rattle.row_image.specs.Cells.{StoredCell, NullCell, NumberCell, ShortCell, LongCell, given_cell, null_number, Meets}
+use Rattle.row_image.specs.Image.{row_count, part_count, is_null, cell_at, cell_in, stored_cell, stored_hash, stored_row, rows_of, parts_of, no_heap}
+use Rattle.row_image.specs.Parts.{given_row, is_long, wanted, parts_with, IsHeap, LiesOn}
+use Rattle.row_image.specs.Rules.{Rule, first_damage}
 use Rattle.row_image.specs.Stores.{StoresAt, StoresRow}
 use Rattle.row_image.proofs.ByteLemmas.{SameOn, number_at_same, number_at_before, same_within}
-use Rattle.row_image.proofs.LayoutLemmas.{width_of_least, offset_of_least, cell_ends, mask_holds, first_place}
+use Rattle.row_image.proofs.LayoutLemmas.{width_of_least, cell_ends, mask_holds, first_place}
 use Rattle.row_image.proofs.StoreLemmas.{cell_at_same}
 use Rattle.row_image.proofs.ListLemmas.{map_same}
-use Rattle.row_image.proofs.AcceptedLemmas.{HasParts, Sound, sound_of, accepted_of, row_fits}
-use Rattle.row_image.proofs.CellRuleLemmas.{KeepsHeap, LiesIn, kind_rules_same, kind_rules_moved, kind_rules_stored}
-use Rattle.row_image.proofs.PartLemmas.{parts_length, parts_same}
-use Rattle.row_image.proofs.PartFacts.{PartFacts, facts_of, facts_sound}
-use Rattle.row_image.proofs.GrownLemmas.{Grew, joined, began, grew_of, grown_facts, old_row_keeps, HasHeap, new_row_has}
+use Rattle.row_image.proofs.CellRuleLemmas.{LiesIn}
+use Rattle.row_image.proofs.PartLemmas.{parts_same}
+use Rattle.row_image.proofs.GrownLemmas.{HasHeap}
 
 -- what a write of a row leaves
 pub record Written (kinds : List CellKind) (old new : List ℕ) (cells : List CellIn) (hash : ℕ) (heap : Option (ℕ × ℕ)) : Type 0 where
@@ -94,6 +90,11 @@ cell_is null kind image at (LongCell prefix size address) e s = ap (λ b. cond b
 pub null_is : (kinds : List CellKind) (limit : ℕ) (image : List ℕ) (at : ℕ) (cells : List CellIn) (hash column : ℕ) → StoresRow kinds image at cells hash → Meets kinds limit cells → column < length kinds → is_null image at column ≡ (null_number (given_cell (get_or cells column Null)) == 1)
 null_is kinds limit image at cells hash column s meets inside =
     s.nulls column inside ∙ ap (λ cell. null_number (given_cell cell) == 1) (get_or_default cells column (Number (pos 0)) Null (omega (arith, meets.count)))
+
+pub written_cell_in : (kinds : List CellKind) (limit : ℕ) (image : List ℕ) (at : ℕ) (cells : List CellIn) (hash column : ℕ) → StoresRow kinds image at cells hash → Meets kinds limit cells → column < length kinds → cell_in kinds image at column ≡ given_cell (get_or cells column Null)
+unfolding cell_in
+written_cell_in kinds limit image at cells hash column s meets inside =
+    cell_is (is_null image at column) (get_or kinds column Bit) image (at + offset_of kinds column) (given_cell (get_or cells column Null)) (null_is kinds limit image at cells hash column s meets inside) (s.stored column inside)
 
 written_cells : (kinds : List CellKind) (limit : ℕ) (image : List ℕ) (at : ℕ) (cells : List CellIn) (hash : ℕ) → StoresRow kinds image at cells hash → Meets kinds limit cells → map (λ column. cell_in kinds image at column) (range_with_len 0 (length kinds)) ≡ map given_cell cells
 unfolding cell_in

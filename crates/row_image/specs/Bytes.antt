@@ -1,5 +1,5 @@
 -- Numbers in a list of bytes, and what a write leaves alone.
-use Rattle.std.specs.Prelude.{◌≡◌, ℕ, zero, suc, ◌+◌, ◌*◌, ◌^◌, ◌<◌, ◌≤◌, List, slice_index}
+use Rattle.std.specs.Prelude.{◌≡◌, ℕ, zero, suc, ◌+◌, ◌*◌, ◌/◌, ◌%◌, ◌^◌, ◌<◌, ◌≤◌, List, [], ◌∷◌, slice_index}
 
 -- a page's length is a power of two from 4,096 to 262,144
 pub record IsPage (page : ℕ) : Type 0 where
@@ -11,6 +11,11 @@ pub record IsPage (page : ℕ) : Type 0 where
 unfoldable pub number_at : List ℕ → ℕ → ℕ → ℕ
 number_at image at zero = 0
 number_at image at (suc n) = slice_index image at + 256 * number_at image (at + 1) n
+
+-- the lowest n bytes of a number, the lowest byte first
+unfoldable pub number_bytes : ℕ → ℕ → List ℕ
+number_bytes zero x = []
+number_bytes (suc n) x = x % 256 ∷ number_bytes n (x / 256)
 
 -- only the bytes from one place up to another may differ
 pub record ChangesOnly (old new : List ℕ) (from to : ℕ) : Type 0 where

@@ -1,6 +1,6 @@
 -- Where the parts of a row lie: its null mask, its hash, and its cells in column order.
-use Rattle.std.specs.Prelude.{ℕ, ◌+◌, ◌*◌, ◌-◌, ◌/◌, Bool, true, false, List, length, take, map}
-use Rattle.std.specs.List.{sum_by, list_any, range_with_len}
+use Rattle.std.specs.Prelude.{ℕ, ◌+◌, ◌*◌, ◌-◌, ◌/◌, Bool, true, false, List, length, take}
+use Rattle.std.specs.List.{sum_by, list_any}
 use Rattle.row_image.specs.declared.layout.CellKind.{CellKind}
 use Rattle.row_image.specs.declared.layout.CellKind.TheVariants.{Bit, Four, Eight, Sixteen, Text}
 

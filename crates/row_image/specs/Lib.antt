@@ -6,3 +6,6 @@ pub mod Image
 pub mod Rules
 pub mod Stores
 pub mod Parts
+pub mod Flat
+pub mod Moves
+pub mod Texts

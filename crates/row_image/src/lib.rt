@@ -7,14 +7,19 @@ mod cell;
 mod check;
 mod image;
 mod layout;
+mod moves;
 mod parts;
 mod put;
 mod read;
+#[cfg(test)]
+mod tests;
 mod write;
 
 pub use cell::{Cell, CellIn};
 pub use check::{check_image, text_limit};
 pub use image::{Damage, DamageField, ImageKind, Part, RowPut, Shape};
 pub use layout::{CellKind, Layout};
+pub use moves::rebase;
+pub use parts::{part_count, part_of};
 pub use read::{read_cell, row_count, row_hash_of};
 pub use write::{new_rows, write_row};

@@ -20,6 +20,17 @@ pub fn part_count(image: &[u8]) -> u32
     word_at(image, 12)
 }
 
+/// A part of an accepted page.
+pub fn part_of(image: &[u8], part: u32) -> Part
+    requires page { IsPage (length image.now) }
+    requires part { part < part_count image.now }
+    requires few { part_count image.now ≤ 4 }
+    ensures listed { slice_get (parts_of image.now) part ≡ Some result }
+    ensures entry { result ≡ part_at image.now part }
+{
+    part_at(image, part)
+}
+
 /// What the head says of a part.
 #[tactic(auto, unfolding(crate::specs::Image::part_at))]
 pub fn part_at(image: &[u8], part: u32) -> Part

@@ -1,11 +1,13 @@
 //! Row pages: an empty one, and a row more.
-ghost use Rattle.std.specs.Prelude.{◌≡◌, ◌≢◌, ℕ, ◌+◌, ◌<◌, ◌≤◌, ◌↔◌, ◌++◌, [], ◌∷◌, length, IsTrue, slice_index, if◌then◌else◌, true, false};
+ghost use Rattle.std.specs.Prelude.{List, ◌≡◌, ◌≢◌, ℕ, ◌+◌, ◌<◌, ◌≤◌, ◌↔◌, ◌++◌, [], ◌∷◌, length, IsTrue, slice_index, if◌then◌else◌, true, false};
 ghost use Rattle.row_image.specs.Bytes.{IsPage, ChangesOnly};
 ghost use Rattle.row_image.specs.Layout.{has_texts, rows_that_fit, row_place, width_of};
 ghost use Rattle.row_image.specs.Cells.{Meets};
 ghost use Rattle.row_image.specs.Image.{row_count, part_count, rows_of, parts_of};
 ghost use Rattle.row_image.specs.Parts.{given_row, wanted, parts_with, begins_fifth, HoldsTexts};
 ghost use Rattle.row_image.specs.Rules.{text_limit, IsAccepted};
+ghost use Rattle.row_image.specs.Flat.{flat, given_flat};
+ghost use Rattle.row_image.specs.Texts.{text_rows, given_texts};
 ghost use Rattle.row_image.specs.Stores.{StoresRow};
 ghost use Rattle.row_image.specs.declared.image.ImageKind.TheVariants.{Rows};
 
@@ -46,6 +48,9 @@ pub fn write_row(
 
     ensures accepted { IsAccepted (Rows layout.now) image.new }
     ensures rows { result ≡ RowPut.Wrote → rows_of layout.now image.new ≡ rows_of layout.now image.old ++ given_row cells.now hash ∷ [] }
+    ensures flat { result ≡ RowPut.Wrote → rows_of layout.now (flat (Rows layout.now) image.new) ≡ rows_of layout.now (flat (Rows layout.now) image.old) ++ given_flat cells.now hash heap ∷ [] }
+    ensures texts { result ≡ RowPut.Wrote → (heaps : ℕ → List ℕ) → text_rows layout.now (flat (Rows layout.now) image.new) heaps ≡ text_rows layout.now (flat (Rows layout.now) image.old) heaps ++ given_texts heaps cells.now hash heap ∷ [] }
+    ensures bytes { result ≡ RowPut.Wrote → StoresRow layout.now image.new (row_place layout.now (row_count image.old)) cells.now hash }
     ensures parts { result ≡ RowPut.Wrote → parts_of image.new ≡ (if has_texts layout.now then parts_with (parts_of image.old) (row_count image.old) (wanted cells.now heap) else parts_of image.old) }
 
     ensures page_full { (result ≡ RowPut.PageFull) ↔ (row_count image.old ≡ rows_that_fit layout.now (length image.old)) }

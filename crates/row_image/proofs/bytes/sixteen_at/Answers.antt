@@ -1,8 +1,7 @@
-use Rattle.std.proofs.Common.{◌≡◌, ◌+◌, ◌*◌, ◌^◌, ap, ◌∙◌, arith, to_z, of_z, rules}
+use Rattle.std.proofs.Common.{ap, ◌∙◌, arith, to_z, rules}
 use Rattle.std.specs.Int.{w128}
 use Rattle.std.specs.Int.RustNames.{FitsSigned}
 use Rattle.std.proofs.lemmas.Int.{to_z-of_z}
-use Rattle.row_image.specs.Bytes.{number_at}
 use Rattle.row_image.proofs.ByteLemmas.{number_at_halves}
 use Rattle.row_image.proofs.bytes.sixteen_at.Goals as goal
 

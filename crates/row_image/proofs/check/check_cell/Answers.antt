@@ -1,6 +1,6 @@
-use Rattle.std.proofs.Common.{◌≡◌, ◌+◌, ◌/◌, ◌<◌, ◌≤◌, List, length, cond, true, false, get_or, arith, ap, sym, subst, ◌∙◌, []}
+use Rattle.std.proofs.Common.{◌≡◌, ◌+◌, List, cond, true, false, get_or, arith, ap, sym, subst, ◌∙◌, []}
 use Rattle.row_image.specs.declared.layout.CellKind.TheVariants.{Bit}
-use Rattle.row_image.specs.Layout.{mask_bytes, width_of, offset_of, row_place, cell_width}
+use Rattle.row_image.specs.Layout.{offset_of, row_place, cell_width}
 use Rattle.row_image.specs.Image.{is_null, part_for}
 use Rattle.row_image.specs.Rules.{Rule, first_damage, kind_rules, cell_rules, Judges}
 use Rattle.row_image.proofs.LayoutLemmas.{width_of_least, mask_holds, cell_ends}

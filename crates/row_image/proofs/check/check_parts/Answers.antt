@@ -1,4 +1,4 @@
-use Rattle.std.proofs.Common.{◌≡◌, ◌+◌, ◌<◌, ◌≤◌, arith, ap, sym, ◌∙◌, below_more}
+use Rattle.std.proofs.Common.{arith, ap, sym, below_more}
 use Rattle.std.proofs.lemmas.Result.{err_from_is_err_and}
 use Rattle.row_image.specs.Image.{part_count}
 use Rattle.row_image.specs.Rules.{part_rules}

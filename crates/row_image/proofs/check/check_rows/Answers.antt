@@ -1,8 +1,8 @@
-use Rattle.std.proofs.Common.{◌≡◌, ◌+◌, ◌<◌, ◌≤◌, ◌++◌, List, None, arith, ap, sym, ◌∙◌, length}
+use Rattle.std.proofs.Common.{◌++◌, arith, ◌∙◌, length}
 use Rattle.std.specs.List.{flat_map, range_with_len}
 use Rattle.std.proofs.lemmas.Result.{err_from_is_err_and}
 use Rattle.row_image.specs.Image.{part_count, row_count, part_at}
-use Rattle.row_image.specs.Rules.{first_damage, head_rules, part_rules, row_rules, rules_of}
+use Rattle.row_image.specs.Rules.{head_rules, part_rules, row_rules, rules_of}
 use Rattle.row_image.proofs.RuleLemmas.{append_next, append_damaged, sound_at}
 use Rattle.row_image.proofs.PartFacts.{facts_of, base_low}
 use Rattle.row_image.proofs.WrittenAccepted.{fit_most}

@@ -1,5 +1,5 @@
-use Rattle.std.proofs.Common.{◌≡◌, ◌≢◌, ◌<◌, ℕ, not, eqb, get_or, arith, ap, sym, ◌∙◌, length}
-use Rattle.std.specs.Prelude.{unwrap_or, find}
+use Rattle.std.proofs.Common.{not, eqb, get_or, arith, ap, sym}
+use Rattle.std.specs.Prelude.{unwrap_or}
 use Rattle.std.proofs.lemmas.Bool.{ne_eqb}
 use Rattle.row_image.specs.Rules.{first_set}
 use Rattle.row_image.proofs.ListLemmas.{find_at, find_none}

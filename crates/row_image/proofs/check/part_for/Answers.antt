@@ -1,5 +1,5 @@
-use Rattle.std.proofs.Common.{◌≡◌, ◌<◌, ◌≤◌, ◌+◌, ℕ, arith, ap, sym, ◌∙◌, length}
-use Rattle.std.specs.Prelude.{unwrap_or, find, nat_lt}
+use Rattle.std.proofs.Common.{◌+◌, arith, ap, sym, ◌∙◌}
+use Rattle.std.specs.Prelude.{unwrap_or, nat_lt}
 use Rattle.std.proofs.lemmas.Bool.{lt-ltb, le-ltb}
 use Rattle.row_image.specs.Image.{part_for, part_at, parts_of, no_part}
 use Rattle.row_image.proofs.ListLemmas.{find_at, find_none}

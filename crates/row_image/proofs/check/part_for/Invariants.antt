@@ -1,4 +1,4 @@
-use Rattle.std.proofs.Common.{◌≡◌, ◌<◌, ◌≤◌, ◌+◌, ℕ}
+use Rattle.std.proofs.Common.{◌<◌, ◌≤◌, ◌+◌, ℕ}
 use Rattle.row_image.specs.Image.{part_at}
 use Rattle.row_image.proofs.check.part_for.Given as goal
 

@@ -1,9 +1,7 @@
-use Rattle.std.proofs.Common.{◌≡◌, ◌≢◌, ◌+◌, ◌<◌, ◌≤◌, ◌/◌, ℕ, length, get_or, arith, refl, sym, ap, ◌∙◌, below_more, get_or-set_other, get_or-set_same, length-set}
-use Rattle.std.specs.Prelude.{slice_set, slice_get}
+use Rattle.std.proofs.Common.{◌≢◌, ◌+◌, ◌<◌, length, arith, refl, ◌∙◌, below_more, get_or-set_other, get_or-set_same, length-set}
 use Rattle.std.proofs.lemmas.List.FromFn.{fill_by_all}
-use Rattle.row_image.specs.Layout.{cell_width, mask_bytes, offset_of, width_of}
+use Rattle.row_image.specs.Layout.{mask_bytes, offset_of}
 use Rattle.row_image.specs.Padded.{offsets_of}
-use Rattle.row_image.specs.declared.layout.CellKind.TheVariants.{Bit}
 use Rattle.row_image.proofs.LayoutLemmas.{offset_of_next, offset_of_past, offset_of_most, width_of_most}
 use Rattle.row_image.proofs.layout.offsets.Goals as goal
 use Rattle.row_image.proofs.layout.offsets.Goals.{then-column-kinds, else-column-kinds}

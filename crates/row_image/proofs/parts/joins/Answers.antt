@@ -1,4 +1,4 @@
-use Rattle.std.proofs.Common.{◌≡◌, ◌<◌, ◌-◌, ℕ, arith, ap, sym, ◌∙◌}
+use Rattle.std.proofs.Common.{◌-◌, arith, ap, sym, ◌∙◌}
 use Rattle.std.proofs.lemmas.Bool.{le-ltb}
 use Rattle.row_image.specs.Image.{part_at}
 use Rattle.row_image.specs.Parts.{takes_row}

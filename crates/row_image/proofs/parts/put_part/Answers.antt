@@ -1,9 +1,9 @@
-use Rattle.std.proofs.Common.{◌≡◌, ◌≢◌, ◌<◌, ◌≤◌, ◌-◌, ◌+◌, ◌*◌, ℕ, true, false, refl, arith, ap, sym, subst, ◌∙◌}
+use Rattle.std.proofs.Common.{◌≡◌, ◌≢◌, ◌-◌, ◌+◌, ◌*◌, ℕ, refl, arith, ap, sym, subst, ◌∙◌}
 use Rattle.std.proofs.lemmas.Bool.{false≢true}
-use Rattle.row_image.specs.Bytes.{number_at, ChangesOnly}
-use Rattle.row_image.specs.Image.{part_at, part_count, parts_of}
-use Rattle.row_image.specs.Parts.{grown, joins}
-use Rattle.row_image.proofs.ByteLemmas.{number_at_before, same_before, same_after}
+use Rattle.row_image.specs.Bytes.{ChangesOnly}
+use Rattle.row_image.specs.Image.{part_at, part_count}
+use Rattle.row_image.specs.Parts.{grown}
+use Rattle.row_image.proofs.ByteLemmas.{number_at_before, same_after}
 use Rattle.row_image.proofs.PartLemmas.{joins_counted, fifth_not, fifth_few, fifth_is, with_joined, with_begun, part_at_same, part_at_other}
 use Rattle.row_image.proofs.parts.put_part.Goals as goal
 

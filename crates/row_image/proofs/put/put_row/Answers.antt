@@ -1,15 +1,15 @@
-use Rattle.std.proofs.Common.{◌≡◌, ◌<◌, ◌≤◌, ◌+◌, ◌*◌, ◌/◌, ◌%◌, ℕ, length, get_or, arith, refl, ap, sym, ◌∙◌, below_more, subst}
+use Rattle.std.proofs.Common.{◌≡◌, ◌<◌, ◌+◌, ◌/◌, ◌%◌, ℕ, length, get_or, arith, ap, ◌∙◌, below_more, subst}
 use Rattle.std.specs.Prelude.{slice_index, ◌==◌}
 use Rattle.std.specs.Int.{bit_at}
 use Rattle.row_image.specs.declared.layout.CellKind.{CellKind}
 use Rattle.row_image.specs.declared.layout.CellKind.TheVariants.{Bit}
 use Rattle.row_image.specs.declared.cell.CellIn.TheVariants.{Null}
-use Rattle.row_image.specs.Bytes.{number_at, ChangesOnly}
+use Rattle.row_image.specs.Bytes.{number_at}
 use Rattle.row_image.specs.Layout.{cell_width, mask_bytes, offset_of, width_of}
 use Rattle.row_image.specs.Cells.{given_cell, null_bit}
 use Rattle.row_image.specs.Image.{is_null}
-use Rattle.row_image.specs.Stores.{StoresAt, StoresRow}
-use Rattle.row_image.proofs.ByteLemmas.{changes_joined, number_at_before, number_at_after, same_before}
+use Rattle.row_image.specs.Stores.{StoresAt}
+use Rattle.row_image.proofs.ByteLemmas.{changes_joined, number_at_before, same_before}
 use Rattle.row_image.proofs.LayoutLemmas.{width_of_least, offset_of_least, offset_of_most, offset_of_next, cell_ends, cells_apart, mask_holds}
 use Rattle.row_image.proofs.StoreLemmas.{stores_same}
 use Rattle.row_image.proofs.put.put_row.Goals as goal

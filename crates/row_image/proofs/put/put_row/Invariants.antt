@@ -1,4 +1,4 @@
-use Rattle.std.proofs.Common.{◌≡◌, ◌<◌, ◌≤◌, ◌+◌, ℕ, get_or}
+use Rattle.std.proofs.Common.{◌<◌, ◌+◌, ℕ, get_or}
 use Rattle.row_image.specs.declared.layout.CellKind.TheVariants.{Bit}
 use Rattle.row_image.specs.declared.cell.CellIn.TheVariants.{Null}
 use Rattle.row_image.specs.Bytes.{ChangesOnly}

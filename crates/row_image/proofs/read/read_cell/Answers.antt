@@ -1,7 +1,6 @@
-use Rattle.std.proofs.Common.{◌≡◌, ◌+◌, ◌/◌, ◌<◌, ◌≤◌, length, cond, true, false, get_or, arith, ap, sym, ◌∙◌}
+use Rattle.std.proofs.Common.{◌≡◌, ◌+◌, true, false, get_or, arith, ap, sym, ◌∙◌}
 use Rattle.row_image.specs.declared.layout.CellKind.TheVariants.{Bit}
-use Rattle.row_image.specs.Layout.{mask_bytes, width_of, offset_of, row_place, cell_width}
-use Rattle.row_image.specs.Cells.{NullCell}
+use Rattle.row_image.specs.Layout.{row_place, cell_width}
 use Rattle.row_image.specs.Image.{cell_in, is_null, cell_at}
 use Rattle.row_image.proofs.LayoutLemmas.{width_of_least, mask_holds, cell_ends}
 use Rattle.row_image.proofs.AcceptedLemmas.{row_lies}

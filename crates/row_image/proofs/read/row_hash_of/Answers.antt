@@ -1,4 +1,4 @@
-use Rattle.std.proofs.Common.{◌+◌, arith, ap, ◌∙◌}
+use Rattle.std.proofs.Common.{arith, ap, ◌∙◌}
 use Rattle.row_image.specs.Bytes.{number_at}
 use Rattle.row_image.specs.Image.{stored_hash}
 use Rattle.row_image.proofs.LayoutLemmas.{width_of_least}

@@ -1,4 +1,4 @@
-use Rattle.std.proofs.Common.{◌≡◌, ◌<◌, ◌≤◌, ◌+◌, ℕ, arith, ap, ◌∙◌}
+use Rattle.std.proofs.Common.{◌+◌, arith, ap, ◌∙◌}
 use Rattle.row_image.specs.Layout.{width_of}
 use Rattle.row_image.proofs.ByteLemmas.{number_at_before}
 use Rattle.row_image.proofs.LayoutLemmas.{first_place}

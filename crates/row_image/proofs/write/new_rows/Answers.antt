@@ -1,7 +1,7 @@
 use Rattle.std.proofs.Common.{◌≡◌, ◌<◌, ◌≤◌, ◌+◌, ℕ, arith, ap, ◌∙◌, map}
 use Rattle.std.specs.Prelude.{slice_index}
 use Rattle.std.specs.List.{range_with_len}
-use Rattle.row_image.specs.Image.{rows_of, stored_row, row_count}
+use Rattle.row_image.specs.Image.{rows_of, stored_row}
 use Rattle.row_image.proofs.ByteLemmas.{number_at_before, number_at_zeros}
 use Rattle.row_image.proofs.WrittenAccepted.{empty_accepted}
 use Rattle.row_image.proofs.write.new_rows.Goals as goal

@@ -1,6 +1,5 @@
-use Rattle.std.proofs.Common.{◌≡◌, ◌<◌, ◌≤◌, length, List, ℕ, arith, ap, sym, ◌∙◌, take, get_or, length-take, subst}
+use Rattle.std.proofs.Common.{◌≤◌, length, arith, ap, sym, ◌∙◌, take, get_or, length-take}
 use Rattle.row_image.specs.Layout.{offset_of}
-use Rattle.row_image.specs.Padded.{offsets_of}
 use Rattle.row_image.proofs.LayoutLemmas.{offsets_of_at}
 use Rattle.row_image.proofs.layout.Layout.offset.Goals as goal
 

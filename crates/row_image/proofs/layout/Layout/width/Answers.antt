@@ -1,5 +1,4 @@
-use Rattle.std.proofs.Common.{arith, ap, ◌∙◌}
-use Rattle.row_image.specs.Layout.{offset_of, width_of}
+use Rattle.std.proofs.Common.{arith, ◌∙◌}
 use Rattle.row_image.proofs.LayoutLemmas.{offset_of_past, width_of_most, width_of_least}
 use Rattle.row_image.proofs.layout.Layout.width.Goals as goal
 
