@@ -11,7 +11,6 @@ mod real_sink;
 pub use command::run;
 pub use real_files::RealFiles;
 pub use real_sink::RealSink;
-
 use std::env;
 use std::process::ExitCode;
 
