@@ -1,9 +1,8 @@
 -- The tests of values and rows are true exactly at equal ones.
-use Rattle.std.proofs.Common.{◌≡◌, ℕ, ℤ, true, false, List, refl}
+use Rattle.std.proofs.Common.{◌≡◌, true, false, List, refl}
 use Rattle.std.specs.Prelude.{nat_eq}
 use Rattle.std.specs.Bool.{Decides}
 use Rattle.std.specs.Ordering.{int_eq}
-use Rattle.std.specs.Str.{bytes_eq}
 use Rattle.std.proofs.lemmas.Bool.Decides.{Decides-eqb, Decides-int_eq, Decides-and, Decides-like}
 use Rattle.std.proofs.lemmas.Slice.Eq.{slice_eq-Decides, bytes_eq-Decides}
 use Rattle.ooc_types.specs.declared.value.Value.{Value}
