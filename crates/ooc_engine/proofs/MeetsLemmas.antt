@@ -1,9 +1,10 @@
 -- The cells of a row of the form meet their columns.
-use Rattle.std.proofs.Common.{◌≡◌, ℕ, zero, suc, ◌+◌, ◌-◌, ◌*◌, ◌<◌, ◌≤◌, Bool, true, false, List, [], ◌∷◌, length, map, get_or, Option, None, Some, refl, sym, ap, ◌∙◌, subst, arith}
-use Rattle.std.specs.Prelude.{ℤ, pos, option_map, option_and_then, IsTrue, ◌&&◌, ◌||◌, if◌then◌else◌, fold}
+use Rattle.std.proofs.Common.{◌≡◌, ℕ, zero, suc, ◌+◌, ◌-◌, ◌*◌, ◌<◌, ◌≤◌, Bool, true, false, List, [], ◌∷◌, length, get_or, Option, None, Some, refl, ap, ◌∙◌, arith}
+use Rattle.std.specs.Prelude.{pos, option_map, option_and_then, ◌||◌, if◌then◌else◌, fold}
 use Rattle.std.specs.List.{list_all}
 use Rattle.std.specs.Int.{w32}
-use Rattle.std.proofs.lemmas.Bool.{leb-true}
+use Rattle.std.proofs.lemmas.Bool.{and_parts, leb-true}
+use Rattle.ooc_engine.proofs.DigitLemmas.{number_short}
 use Rattle.std.proofs.lemmas.Int.{fits_signed_from_abs}
 use Rattle.ooc_types.specs.declared.schema.Column.{Column}
 use Rattle.ooc_types.specs.declared.schema.SqlType.{SqlType}
@@ -34,28 +35,25 @@ more_tens zero m h = some_tens m
 more_tens (suc n) zero h = absurd (omega arith)
 more_tens (suc n) (suc m) h = omega (arith, more_tens n m (omega arith))
 
-both : (a b : Bool) → (a && b) ≡ true → (a ≡ true) × (b ≡ true)
-both true b h = (refl, h)
-both false b h = cc
-
 digit_value : (byte : ℕ) → is_digit byte ≡ true → byte - 48 ≤ 9
-digit_value byte h = let most = leb-true byte 57 (both _ _ h).1 in omega arith
+digit_value byte h = let most : byte ≤ 57 = leb-true byte 57 (and_parts _ _ h).1 in omega arith
 
 small_number : (digits : List ℕ) (n bound : ℕ) → list_all is_digit digits ≡ true → n < bound → fold (λ n byte. n * 10 + (byte - 48)) n digits < bound * tens (length digits)
 small_number [] n bound all small = omega arith
 small_number (byte ∷ digits) n bound all small =
-    let h = both (is_digit byte) (list_all is_digit digits) all in
+    let h = and_parts (is_digit byte) (list_all is_digit digits) all in
     let one = digit_value byte h.0 in
     let rest = small_number digits (n * 10 + (byte - 48)) (10 * bound) h.1 (omega arith) in
     omega (arith, rest)
 
 pub number_is_small : (text : List ℕ) → is_number text ≡ true → number_of text < 1000000000
 number_is_small text h =
-    let parts = both _ _ h in
-    let lengths = both _ _ parts.0 in
-    let few : length text ≤ 9 = leb-true _ _ lengths.1 in
-    let most = more_tens (length text) 9 few in
-    omega (arith, small_number text 0 1 parts.1 (omega arith), most)
+    let few : length text ≤ 9 = number_short text h in
+    let most : tens (length text) ≤ tens 9 = more_tens (length text) 9 few in
+    let one : 0 < 1 = omega arith in
+    let digits : list_all is_digit text ≡ true = (and_parts _ _ h).1 in
+    let small : number_of text < 1 * tens (length text) = small_number text 0 1 digits one in
+    omega arith
 
 -- a cell whose value is a field's
 number_takes : (test : Bool) (text : List ℕ) (v : Value) (cell : StoredCell) → is_number text ≡ test → (if test then Some (value.Number (pos (number_of text)) 0) else None) ≡ Some v → cell_value cell ≡ v → Takes Four 12 cell
@@ -74,7 +72,7 @@ text_takes true text v (NumberCell z) is read e = cc
 text_takes true text v (LongCell prefix size address) is read e = cc
 text_takes true text v (ShortCell bytes) is read e =
     let same : bytes ≡ text = cc in
-    let lengths = both _ _ (both _ _ is).0 in
+    let lengths = and_parts _ _ (and_parts _ _ is).0 in
     let few : length text ≤ 12 = leb-true _ _ lengths.1 in
     rw same few
 

@@ -1,16 +1,20 @@
 -- A list of named tables as a finite map.
-use Rattle.std.proofs.Common.{◌≡◌, ℕ, suc, zero, ◌+◌, ◌<◌, Bool, true, false, cond, List, [], ◌∷◌, ◌++◌, map, length, take, drop, get_or, set, Option, None, Some, refl, sym, ap, ◌∙◌, subst, arith, ◌⊎◌, ⊎_elim}
+use Rattle.std.proofs.Common.{◌≡◌, ℕ, suc, zero, ◌+◌, ◌<◌, Bool, true, false, cond, List, [], ◌∷◌, ◌++◌, map, length, take, drop, get_or, set, Option, None, Some, Result, Ok, Err, refl, sym, ap, ◌∙◌, subst, arith, ◌⊎◌, ⊎_elim}
 use Rattle.std.specs.Str.{bytes_eq}
 use Rattle.std.specs.Ordering.{nat_cmp, eq_by_cmp}
 use Rattle.std.specs.Cmp.Lexicographic.{slice_cmp}
 use Rattle.std.proofs.lemmas.Cmp.{nat_list_cmp_total}
 use Rattle.std.proofs.lemmas.Map.Text.{is_eq-slice_cmp}
 use Rattle.std.proofs.lemmas.Bool.{cases_Bool, false≢true}
-use Rattle.std.proofs.lemmas.Option.{none-some}
+use Rattle.std.proofs.lemmas.Option.{none-some, same_Some, slice_get-get_or}
 use Rattle.std.specs.FinMap.{get, find, insert, from_entries, get-from_entries, get-insert, from_entries_push, same_map, nat_cmp-IsAntisymmetric, slice_cmp-IsAntisymmetric}
 use Rattle.ooc_engine.specs.declared.catalog.NamedTable.{NamedTable}
-use Rattle.ooc_engine.specs.Catalog.{Catalog, Table}
-use Rattle.ooc_engine.specs.Named.{entry_of, tables_of, look}
+use Rattle.ooc_engine.specs.declared.form.FormStop.{FormStop}
+use Rattle.ooc_engine.specs.declared.form.FormStop.TheVariants as stop
+use Rattle.ooc_engine.specs.FileRows.{file_rows}
+use Rattle.ooc_engine.specs.Loaded.{Loads}
+use Rattle.ooc_engine.specs.Catalog.{Catalog, Table, more_rows}
+use Rattle.ooc_engine.specs.Named.{entry_of, tables_of, look, IsFirst, LoadsInto}
 use Rattle.ooc_engine.proofs.FormLemmas.{equal_bytes, same_bytes}
 
 find-look : (ts : List NamedTable) (name : List ℕ) → find (slice_cmp nat_cmp) name (map entry_of ts) ≡ look name ts
@@ -95,3 +99,51 @@ look_passed (t ∷ ts) name (suc i) at h is none other =
     let apart = apart_first (bytes_eq name t.name) t.table (look name (take i ts)) none in
     let more : suc i + 1 ≡ suc (i + 1) = omega arith in
     rw more (ap (λ b. cond b (Some t.table) (look name (take (i + 1) ts))) apart.0 ∙ look_passed ts name i at (omega arith) is apart.1 other)
+
+same_item : {A : Type 0} (xs : List A) (i : ℕ) (a b : A) → i < length xs → a ≡ get_or xs i a → b ≡ get_or xs i b → a ≡ b
+same_item xs i a b h x y = same_Some a b (ap Some x ∙ sym (slice_get-get_or xs i a h) ∙ slice_get-get_or xs i b h ∙ ap Some (sym y))
+
+module _ (ts : List NamedTable) (name : List ℕ) (place : ℕ) (r : NamedTable) (f : IsFirst ts name place) (is : r ≡ get_or ts place r) where
+  first_named : r.name ≡ name
+  first_named = ap (λ (t : NamedTable). t.name) (same_item ts place r f.at f.within is f.is) ∙ f.named
+
+  pub first_look : look name ts ≡ Some r.table
+  first_look = look_at ts name place r f.within is f.before (ap (λ n. bytes_eq n name) first_named ∙ same_bytes name)
+
+  first_set : (v : Table) → tables_of (set ts place (renewed r.name v)) ≡ insert (tables_of ts) name v
+  first_set v =
+      tables-set ts place r.name v r f.within is refl (ap (λ n. look n (take place ts)) first_named ∙ f.before)
+      ∙ ap (λ n. insert (tables_of ts) n v) first_named
+
+  loaded_so : (old : Catalog) (bytes : List ℕ) (result : Result (Unit {0}) FormStop) (new : Table) → tables_of ts ≡ old → Loads r.table (file_rows r.table.schema bytes) result new
+      → LoadsInto old name bytes (Some r.table) result (tables_of (set ts place (renewed r.name new)))
+  loaded_so old bytes (Err stop.NotBuilt) new view h = h.0
+  loaded_so old bytes (Err stop.OutOfMemory) new view h = tt
+  loaded_so old bytes (Ok done) new view h =
+      (h.0, h.1, first_set new ∙ ap (λ t. insert (tables_of ts) name t) h.2 ∙ ap (λ m. insert m name (more_rows r.table h.0)) view)
+
+-- what a catalog has under the name of a place's table
+pub got : (old : Catalog) (ts seen : List NamedTable) (name : List ℕ) (place : ℕ) (r : NamedTable) → tables_of ts ≡ old → seen ≡ ts → IsFirst seen name place → r ≡ get_or ts place r → Some r.table ≡ get old name
+got old ts seen name place r view same f is =
+    let first : IsFirst ts name place = subst (λ (s : List NamedTable). IsFirst s name place) same f in
+    sym (ap (λ m. get m name) (sym view) ∙ get-look ts name ∙ first_look ts name place r first is)
+
+pub got_none : (old : Catalog) (ts seen : List NamedTable) (name : List ℕ) → tables_of ts ≡ old → seen ≡ ts → look name seen ≡ None → None ≡ get old name
+got_none old ts seen name view same none =
+    sym (ap (λ m. get m name) (sym view) ∙ get-look ts name ∙ ap (look name) (sym same) ∙ none)
+
+-- the table at a place was loaded
+pub loaded_into : (old : Catalog) (ts seen : List NamedTable) (name bytes : List ℕ) (place : ℕ) (r : NamedTable) (result : Result (Unit {0}) FormStop) (new : Table) → tables_of ts ≡ old → seen ≡ ts → IsFirst seen name place → r ≡ get_or ts place r
+    → Loads r.table (file_rows r.table.schema bytes) result new → LoadsInto old name bytes (get old name) result (tables_of (set ts place (renewed r.name new)))
+loaded_into old ts seen name bytes place r result new view same f is h =
+    let first : IsFirst ts name place = subst (λ (s : List NamedTable). IsFirst s name place) same f in
+    subst (λ (o : Option Table). LoadsInto old name bytes o result (tables_of (set ts place (renewed r.name new)))) (got old ts seen name place r view same f is)
+    (loaded_so ts name place r first is old bytes result new view h)
+
+pub loaded_nowhere : (old : Catalog) (ts seen : List NamedTable) (name bytes : List ℕ) (new : Catalog) → tables_of ts ≡ old → seen ≡ ts → look name seen ≡ None → LoadsInto old name bytes (get old name) (Err stop.NotBuilt) new
+loaded_nowhere old ts seen name bytes new view same none =
+    subst (λ (o : Option Table). LoadsInto old name bytes o (Err stop.NotBuilt) new) (got_none old ts seen name view same none) refl
+
+pub pushed : (old : Catalog) (ts more : List NamedTable) (name : List ℕ) (table : Table) → tables_of ts ≡ old → more ≡ ts ++ renewed name table ∷ [] → get old name ≡ None → tables_of more ≡ insert old name table
+pushed old ts more name table view are none =
+    ap tables_of are ∙ tables-push ts name table (ap (λ m. get m name) view ∙ none) ∙ ap (λ m. insert m name table) view

@@ -1,20 +1,18 @@
 -- Pages of a table's rows.
-use Rattle.std.proofs.Common.{◌≡◌, ℕ, ◌+◌, ◌<◌, ◌≤◌, Bool, true, false, cond, List, [], ◌∷◌, ◌++◌, length, map, get_or, Option, None, Some, refl, sym, ap, ◌∙◌, subst, arith}
-use Rattle.std.specs.Prelude.{IsTrue, slice_index, All}
-use Rattle.std.specs.List.{list_any, range_with_len}
+use Rattle.std.proofs.Common.{◌≡◌, ℕ, ◌<◌, ◌≤◌, Bool, true, false, cond, List, [], ◌∷◌, length, get_or, None, refl, sym, ap, ◌∙◌, arith}
+use Rattle.std.specs.Prelude.{IsTrue, slice_index}
+use Rattle.std.specs.List.{list_any}
 use Rattle.std.proofs.lemmas.List.FromFn.{length-map-range_with_len}
 use Rattle.std.proofs.Math.Nat.{div-lt_iff_lt-mul}
 use Rattle.row_image.specs.declared.cell.CellIn.{CellIn}
-use Rattle.row_image.specs.declared.cell.CellIn.TheVariants as given
 use Rattle.row_image.specs.declared.layout.CellKind.{CellKind}
 use Rattle.row_image.specs.declared.layout.CellKind.TheVariants.{Bit, Four, Eight, Sixteen, Text}
 use Rattle.row_image.specs.declared.image.Part.{Part}
 use Rattle.row_image.specs.Bytes.{IsPage, number_at}
 use Rattle.row_image.specs.Cells.{StoredCell, NullCell, NumberCell, ShortCell, LongCell, Takes, Meets, given_cell}
-use Rattle.row_image.specs.Image.{row_count, part_count, rows_of, parts_of}
+use Rattle.row_image.specs.Image.{row_count, rows_of, parts_of}
 use Rattle.row_image.specs.Layout.{rows_that_fit, width_of}
 use Rattle.row_image.specs.Parts.{wanted, joins, parts_with, begins_fifth, is_long, LiesOn, HoldsTexts}
-use Rattle.row_image.specs.Rules.{text_limit}
 use Rattle.row_image.proofs.LayoutLemmas.{width_of_most, width_of_least}
 
 pub is_page : (n : ℕ) → n ≡ 4096 → IsPage n

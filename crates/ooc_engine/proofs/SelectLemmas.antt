@@ -1,11 +1,13 @@
 -- What a select prints, row by row.
-use Rattle.std.proofs.Common.{◌≡◌, ℕ, zero, suc, ◌+◌, ◌-◌, ◌<◌, ◌≤◌, Bool, true, false, cond, List, [], ◌∷◌, ◌++◌, length, map, get_or, take, drop, refl, sym, ap, ◌∙◌, arith, add-one, append_assoc, append-nil, take_all, length-map}
-use Rattle.std.specs.Prelude.{All, IsTrue, ◌&&◌, ◌||◌}
-use Rattle.std.specs.List.{flat_map, filter, list_any, list_all, range_with_len, slice_range}
+use Rattle.std.proofs.Common.{◌≡◌, ℕ, zero, suc, ◌+◌, ◌-◌, ◌<◌, ◌≤◌, Bool, true, false, cond, List, [], ◌∷◌, ◌++◌, length, map, get_or, take, drop, refl, sym, ap, ◌∙◌, arith, add-one, append_assoc, append-nil, take_all}
+use Rattle.std.specs.Prelude.{All, ◌&&◌, ◌||◌}
+use Rattle.std.specs.List.{flat_map, filter, range_with_len, slice_range}
 use Rattle.std.specs.Str.{bytes_eq}
-use Rattle.std.proofs.lemmas.List.{get_or-map, take_more, flat_map_more, map-append}
+use Rattle.std.proofs.lemmas.List.{get_or-map, take_more, flat_map_more, map-append, length-map}
 use Rattle.std.proofs.lemmas.List.Concat.{flat_map-append}
 use Rattle.std.proofs.lemmas.List.FromFn.{get_or-map-range_with_len, length-map-range_with_len}
+use Rattle.std.proofs.lemmas.Bool.{and_parts, true_from_ne_false, false≢true}
+use Rattle.std.proofs.lemmas.List.Folds.{list_all_at}
 use Rattle.std.proofs.lemmas.Slice.Eq.{bytes_eq-Decides}
 use Rattle.row_image.specs.declared.layout.CellKind.{CellKind}
 use Rattle.row_image.specs.Image.{row_count, rows_of, stored_row, stored_cell}
@@ -16,15 +18,12 @@ use Rattle.result_print.specs.Printed.{block_text, header_text, row_text, line_t
 use Rattle.ooc_engine.specs.declared.select.Test.{Test}
 use Rattle.ooc_engine.specs.declared.statement.Filter.{Filter}
 use Rattle.ooc_engine.specs.Catalog.{Table}
-use Rattle.ooc_engine.specs.Meaning.{place_of, value_at, passes, picked_row, picked_columns, picked_rows, kept_rows}
+use Rattle.ooc_engine.specs.Meaning.{place_of, value_at, passes, picked_row, picked_columns, picked_rows}
 use Rattle.ooc_engine.specs.ScriptText.{has_column, has_integer, have_columns, is_integer}
 use Rattle.ooc_engine.specs.Selected.{kept_line, cell_text}
 use Rattle.ooc_engine.specs.Stored.{cell_value, stored_values, rows_in}
+use Rattle.ooc_engine.specs.Pages.{rows_on}
 use Rattle.ooc_engine.proofs.TableLemmas.{rows_of_none}
-
-either : (a b : Bool) → (a && b) ≡ true → (a ≡ true) × (b ≡ true)
-either true b h = (refl, h)
-either false b h = cc
 
 -- the cells of a stored row
 
@@ -39,8 +38,8 @@ texts_are : (kinds : List CellKind) (image : List ℕ) (row : ℕ) (places : Lis
     → map value_text (map (value_at (stored_values (stored_row kinds image row))) places) ≡ map (cell_text kinds image row) places
 texts_are kinds image row [] h = refl
 texts_are kinds image row (place ∷ places) h =
-    ap (λ v. value_text v ∷ map value_text (map (value_at (stored_values (stored_row kinds image row))) places)) (value_is kinds image row place h.0)
-    ∙ ap (λ l. cell_text kinds image row place ∷ l) (texts_are kinds image row places h.1)
+    ap (λ v. value_text v ∷ map value_text (map (value_at (stored_values (stored_row kinds image row))) places)) (value_is kinds image row place (h 0 0 (omega arith)))
+    ∙ ap (λ l. cell_text kinds image row place ∷ l) (texts_are kinds image row places (λ k d within. h (suc k) d (omega arith)))
 
 row_text_is : (values : List Value) → row_text values ≡ line_text (map value_text values)
 unfolding row_text
@@ -63,7 +62,7 @@ module _ (test : Test) (places : List ℕ) (kinds : List CellKind) (image : List
 
 length_rows : (kinds : List CellKind) (image : List ℕ) → length (map stored_values (rows_of kinds image)) ≡ row_count image
 unfolding rows_of
-length_rows kinds image = omega (arith, length-map stored_values (map (λ row. stored_row kinds image row) (range_with_len 0 (row_count image))), length-map-range_with_len (λ row. stored_row kinds image row) 0 (row_count image))
+length_rows kinds image = omega (arith, length-map (map (λ row. stored_row kinds image row) (range_with_len 0 (row_count image))) stored_values, length-map-range_with_len (λ row. stored_row kinds image row) 0 (row_count image))
 
 row_at : (kinds : List CellKind) (image : List ℕ) (row : ℕ) (d : List Value) → row < row_count image → get_or (map stored_values (rows_of kinds image)) row d ≡ stored_values (stored_row kinds image row)
 unfolding rows_of
@@ -109,9 +108,13 @@ place_within (column ∷ columns) name h =
     let within = place_at (bytes_eq column.name name) (has_column columns name) (place_of columns name) (length columns) (place_within columns name) h in
     omega arith
 
+all_cons : (count place : ℕ) (places : List ℕ) → place < count → All (λ p. p < count) places → (k : ℕ) (d : ℕ) → k < length (place ∷ places) → get_or (place ∷ places) k d < count
+all_cons count place places one rest zero d within = one
+all_cons count place places one rest (suc k) d within = rest k d (omega arith)
+
 pub places_within : (columns : List Column) (names : List (List ℕ)) → have_columns columns names ≡ true → All (λ place. place < length columns) (map (place_of columns) names)
-places_within columns [] h = tt
-places_within columns (name ∷ names) h = let p = either _ _ h in (place_within columns name p.0, places_within columns names p.1)
+places_within columns [] h = λ k d within. absurd (omega arith)
+places_within columns (name ∷ names) h = let p = and_parts _ _ h in all_cons (length columns) (place_of columns name) (map (place_of columns) names) (place_within columns name p.0) (places_within columns names p.1)
 
 any_of : (same integer rest others : Bool) → (rest ≡ true → others ≡ true) → ((same && integer) || rest) ≡ true → (same || others) ≡ true
 any_of true integer rest others h is = refl
@@ -120,6 +123,9 @@ any_of false integer rest others h is = h is
 pub integer_is_column : (columns : List Column) (name : List ℕ) → has_integer columns name ≡ true → has_column columns name ≡ true
 integer_is_column [] name h = h
 integer_is_column (column ∷ columns) name h = any_of (bytes_eq column.name name) (is_integer column.kind) (has_integer columns name) (has_column columns name) (integer_is_column columns name) h
+
+pub has_each : (columns : List Column) (names : List (List ℕ)) (i : ℕ) (d : List ℕ) → have_columns columns names ≡ true → i < length names → has_column columns (get_or names i d) ≡ true
+has_each columns names i d all within = true_from_ne_false _ (λ no. false≢true (sym (list_all_at (has_column columns) names i d within no) ∙ all))
 
 -- the columns of names
 
@@ -136,8 +142,8 @@ column_at columns column name place true is rest = ap (λ (n : List ℕ). field_
 column_at columns column name place false is rest = ap (map column_text) (next_column columns column place) ∙ rest refl
 
 found_behind : (same rest : Bool) → (same || rest) ≡ true → same ≡ false → rest ≡ true
-found_behind true rest h no = cc
-found_behind false rest h no = h
+found_behind true rest h other = cc
+found_behind false rest h other = h
 
 one_column : (columns : List Column) (name : List ℕ) → has_column columns name ≡ true → map column_text (slice_range columns (place_of columns name) (place_of columns name + 1)) ≡ field_text name ∷ []
 one_column [] name h = cc
@@ -146,7 +152,7 @@ one_column (column ∷ columns) name h = column_at columns column name (place_of
 pub names_are : (columns : List Column) (names : List (List ℕ)) → have_columns columns names ≡ true → map column_text (picked_columns columns names) ≡ map field_text names
 names_are columns [] h = refl
 names_are columns (name ∷ names) h =
-    let p = either _ _ h in
+    let p = and_parts _ _ h in
     map-append column_text (slice_range columns (place_of columns name) (place_of columns name + 1)) (picked_columns columns names)
     ∙ ap (λ l. l ++ map column_text (picked_columns columns names)) (one_column columns name p.0) ∙ ap (λ l. field_text name ∷ l) (names_are columns names p.1)
 
@@ -178,6 +184,30 @@ pub block_is : (table : Table) (names : List (List ℕ)) (test : Filter) → hav
     → (line_text (map field_text names) ++ flat_map (kept_line (test_of table.schema names test) (map (place_of table.schema) names)) table.rows) ++ 10 ∷ [] ≡ block_text (picked_columns table.schema names) (picked_rows table names test)
 unfolding block_text header_text
 block_is table names test h =
-    append_assoc (line_text (map field_text names)) _ (10 ∷ [])
-    ∙ ap (λ l. line_text l ++ flat_map (kept_line (test_of table.schema names test) (map (place_of table.schema) names)) table.rows ++ 10 ∷ []) (sym (names_are table.schema names h))
-    ∙ ap (λ l. line_text (map column_text (picked_columns table.schema names)) ++ l ++ 10 ∷ []) (lines_are table.schema names test table.rows)
+    let rows = flat_map (kept_line (test_of table.schema names test) (map (place_of table.schema) names)) table.rows in
+    ap (λ (l : List (List ℕ)). (line_text l ++ rows) ++ 10 ∷ []) (sym (names_are table.schema names h))
+    ∙ ap (λ (l : List ℕ). (line_text (map column_text (picked_columns table.schema names)) ++ l) ++ 10 ∷ []) (lines_are table.schema names test table.rows)
+
+-- the steps of the calls that print
+
+pub within_at_end : (columns left : List Column) (name : List ℕ) (place : ℕ) → has_column columns name ≡ true → length left < 1 → place_of columns name ≡ place + place_of left name → place < length columns
+within_at_end columns [] name place has none is = omega (arith, place_within columns name has)
+within_at_end columns (column ∷ left) name place has none is = absurd (omega arith)
+
+pub no_lines : (line : List Value → List ℕ) (kinds : List CellKind) (before : List ℕ) → before ≡ before ++ flat_map line (rows_in kinds [])
+unfolding rows_in
+no_lines line kinds before = sym (append-nil before)
+
+pub two_parts : (line : List Value → List ℕ) (kinds own : List CellKind) (full : List (List ℕ)) (last : List ℕ) (before between after : List ℕ) (rows : List (List Value)) → kinds ≡ own → rows ≡ rows_on own full last
+    → between ≡ before ++ flat_map line (rows_in kinds full) → after ≡ between ++ flat_map line (rows_in kinds (last ∷ [])) → after ≡ before ++ flat_map line rows
+two_parts line kinds own full last before between after rows same all first second =
+    let e : rows ≡ rows_in kinds full ++ rows_in kinds (last ∷ []) = all ∙ ap (λ (k : List CellKind). rows_on k full last) (sym same) in
+    second ∙ ap (λ l. l ++ flat_map line (rows_in kinds (last ∷ []))) first
+    ∙ append_assoc before (flat_map line (rows_in kinds full)) (flat_map line (rows_in kinds (last ∷ [])))
+    ∙ ap (λ l. before ++ l) (sym (ap (flat_map line) e ∙ flat_map-append line (rows_in kinds full) (rows_in kinds (last ∷ []))))
+
+pub whole : (table : Table) (names shown : List (List ℕ)) (test : Filter) (start first second last : List ℕ) (place : ℕ) (picked : List ℕ) → have_columns table.schema names ≡ true
+    → start ≡ [] → shown ≡ names → place ≡ place_of table.schema test.column → picked ≡ map (place_of table.schema) names
+    → first ≡ start ++ line_text (map field_text shown) → second ≡ first ++ flat_map (kept_line (record { place = place; sign = test.sign; number = test.number }) picked) table.rows → last ≡ second ++ 10 ∷ []
+    → last ≡ block_text (picked_columns table.schema names) (picked_rows table names test)
+whole table names shown test start first second last place picked h empty same at are a b d = rw (d, b, a, empty, same, at, are) (block_is table names test h)

@@ -1,6 +1,5 @@
 -- The rows on a table's pages, with one row more.
-use Rattle.std.proofs.Common.{◌≡◌, ℕ, ◌+◌, List, [], ◌∷◌, ◌++◌, length, map, refl, sym, ap, ◌∙◌, arith, append_assoc, append-nil, eqb, cond, ◌≤◌, ◌<◌, take, set, get_or, take_all, length-set, subst}
-use Rattle.std.specs.List.{flat_map}
+use Rattle.std.proofs.Common.{◌≡◌, ℕ, ◌+◌, List, [], ◌∷◌, ◌++◌, length, map, refl, sym, ap, ◌∙◌, arith, append_assoc, append-nil, eqb, cond, ◌≤◌, ◌<◌, take, set, get_or, take_all, subst}
 use Rattle.std.proofs.lemmas.List.{map-append, take_more, take_more_set}
 use Rattle.std.proofs.lemmas.List.Concat.{flat_map-append}
 use Rattle.row_image.specs.declared.cell.CellIn.{CellIn}
@@ -36,7 +35,7 @@ rows_more kinds full old new cells e =
 pub rows_begun : (kinds : List CellKind) (full : List (List ℕ)) (old new : List ℕ) (cells : List CellIn) → rows_of kinds new ≡ given_row cells 0 ∷ []
     → rows_on kinds (cond (eqb (length old) 0) full (full ++ old ∷ [])) new ≡ rows_on kinds full old ++ given_values cells ∷ []
 unfolding rows_in
-rows_begun kinds full [] new cells e = simp (e, rows_of_none kinds, append-nil, append_assoc)
+rows_begun kinds full [] new cells e = simp (e, rows_of_none kinds, append-nil)
 rows_begun kinds full (byte ∷ bytes) new cells e = rw (eqb-suc-zero (length bytes)) (simp (e, flat_map-append, append-nil, append_assoc))
 
 -- a table's value, by what it keeps

@@ -1,5 +1,5 @@
 -- What the calls below the top call tell of the way a run ends.
-use Rattle.std.specs.Prelude.{ℕ, ◌≡◌, ◌≢◌, ◌≤◌, ◌⊎◌, List, [], ◌++◌, length, Option, Some, Result, Ok, Err, Vec, ⊤, Contains}
+use Rattle.std.specs.Prelude.{ℕ, ◌≡◌, ◌≢◌, ◌≤◌, ◌⊎◌, List, [], ◌++◌, length, Option, None, Some, Result, Ok, Err, Vec, ⊤, Contains}
 use Rattle.std.specs.Io.KnownBytes.{Appends}
 use Rattle.ooc_io.specs.Counts.{Rose}
 use Rattle.ooc_types.specs.declared.refusal.RefusalKind.{RefusalKind}
@@ -11,7 +11,9 @@ use Rattle.ooc_engine.specs.declared.form.FormStop.{FormStop}
 use Rattle.ooc_engine.specs.declared.form.FormStop.TheVariants as stop
 use Rattle.ooc_engine.specs.declared.settings.Settings.{Settings}
 use Rattle.ooc_engine.specs.Lines.{line_of}
-use Rattle.ooc_engine.specs.Status.{script_refused}
+use Rattle.ooc_engine.specs.declared.status.Place.TheVariants.{Record}
+use Rattle.ooc_types.specs.declared.refusal.RefusalKind.TheVariants.{NoFile}
+use Rattle.ooc_engine.specs.Status.{script_refused, refused}
 use Rattle.ooc_io.specs.Held.{Held}
 use Rattle.ooc_engine.specs.Script.{Script, IsTree, IsOpened}
 use Rattle.ooc_engine.specs.ScriptText.{IsScript, most}
@@ -66,6 +68,11 @@ IsOfFiles WriteFault = ⊥
 abbrev pub IsScriptRead : Option (List ℕ) → Result (List ℕ) Status → Type 0
 IsScriptRead file (Ok bytes) = (file ≡ Some bytes) × (length bytes ≤ most)
 IsScriptRead file (Err status) = ((kind : RefusalKind) × IsTree file (Err kind) × (status ≡ script_refused kind)) ⊎ MayCut status
+
+-- a front of the file that is the whole of it or too long; or its refusal, or what may cut the run
+abbrev pub IsFileRead : ℕ → Option (List ℕ) → Result (List ℕ) Status → Type 0
+IsFileRead number file (Err status) = ((file ≡ None) × (status ≡ refused number (Record 0 0) NoFile)) ⊎ MayCut status
+IsFileRead number file (Ok bytes) = (whole : List ℕ) × (file ≡ Some whole) × IsReadUpTo most whole bytes
 
 -- the statements of a script's bytes, none, or want of memory
 abbrev pub IsParsed : List ℕ → Result (List Statement) FormStop → Type 0

@@ -1,5 +1,5 @@
 -- What is left of a text that is read part by part.
-use Rattle.std.specs.Prelude.{ℕ, ◌==◌, List, [], Option, None, Some, option_map}
+use Rattle.std.specs.Prelude.{ℕ, ◌==◌, List, [], Option, None, Some}
 use Rattle.std.specs.List.{slice_split}
 use Rattle.std.specs.Borrow.{Bor}
 

@@ -1,17 +1,164 @@
 //! One statement.
-ghost use Rattle.std.specs.Prelude.{◌≡◌, ◌≤◌, IfErr, IfSome, Err};
+ghost use Rattle.std.specs.Prelude.{◌≡◌, ◌≤◌, IfErr, IfOk, IfSome, Err};
+ghost use Rattle.std.specs.FinMap.{get};
 ghost use Rattle.ooc_io.specs.Counts.{Rose};
-ghost use Rattle.ooc_engine.specs.Meaning.{outcome};
-ghost use Rattle.ooc_engine.specs.Ends.{IsStep, IsOfFiles, result_items};
+ghost use Rattle.ooc_engine.specs.Catalog.{table_at};
+ghost use Rattle.ooc_engine.specs.Meaning.{outcome, created, copied, selected, is_asked};
+ghost use Rattle.ooc_engine.specs.ScriptText.{is_table};
+ghost use Rattle.ooc_engine.specs.Status.{refused};
+ghost use Rattle.ooc_engine.specs.Ends.{IsStep, IsOfFiles, IsFileRead, result_items};
 
-use crate::catalog::Catalog;
+use crate::catalog::{Catalog, small_letters};
+use crate::form::FormStop;
+use crate::naming::{has_integer, have_columns, is_count, is_table};
+use crate::reading::{ReadFailure, read_up_to};
+use crate::select::select;
 use crate::settings::Settings;
-use crate::statement::Statement;
-use crate::status::Status;
-use ooc_io::Files;
+use crate::statement::{Filter, Names, Statement};
+use crate::status::{Place, Refusal, Status};
+use crate::table::Table;
+use ooc_io::{Files, OpenFault};
+use ooc_types::{Column, RefusalKind, Schema, Text};
 use std::alloc::Global;
 
+/// The bytes of the longest file.
+const MOST: usize = 1_048_576;
+
+fn refused(statement: u32, place: Place, kind: RefusalKind) -> Status
+    ensures { result ≡ refused statement place kind }
+{
+    Status::Refused(Refusal {
+        statement,
+        place,
+        kind,
+    })
+}
+
+fn not_built(statement: u32) -> Status
+    ensures { result ≡ refused statement Place.Whole RefusalKind.NotBuilt }
+{
+    refused(statement, Place::Whole, RefusalKind::NotBuilt)
+}
+
+// The file's bytes; of a longer one, a front that is too long.
+fn read_file<F: Files>(
+    alloc: Global,
+    number: u32,
+    files: &mut F,
+    name: &str,
+) -> Result<Vec<u8>, Status>
+    ensures read { IfSome (F.holds files.old) (λ held. IsFileRead number (get held name.now) (result_items result)) }
+    ensures holds { F.holds files.new ≡ F.holds files.old }
+    ensures later { F.faults files.old ≤ F.faults files.new }
+    ensures read_fault { result ≡ Err Status.ReadFault → Rose (F.faults files.old) (F.faults files.new) }
+    ensures kinds { IfErr result IsOfFiles }
+{
+    match files.open(name) {
+        Ok(()) => match read_up_to(alloc, files, MOST) {
+            Ok(bytes) => Ok(bytes),
+            Err(ReadFailure::Read) => Err(Status::ReadFault),
+            Err(ReadFailure::Memory) => Err(Status::OutOfMemory),
+        },
+        Err(OpenFault::Missing) => {
+            let place = Place::Record {
+                number: 0,
+                column: 0,
+            };
+            Err(refused(number, place, RefusalKind::NoFile))
+        }
+        Err(OpenFault::Failed) => Err(Status::ReadFault),
+    }
+}
+
+// A new table.
+fn create(
+    alloc: Global,
+    number: u32,
+    name: &Text,
+    columns: &Schema,
+    catalog: &mut Catalog,
+) -> Result<Vec<u8>, Status>
+    ensures step { IsStep (created number catalog.old name.now columns.now (table_at catalog.old name.now)) catalog.new (result_items result) }
+    ensures kinds { IfErr result IsOfFiles }
+{
+    let name = small_letters(alloc, name.as_bytes())?;
+    match catalog.get(name.as_bytes()) {
+        Some(_) => Err(not_built(number)),
+        None => {
+            if !is_table(columns.as_slice()) {
+                return Err(not_built(number));
+            }
+            catalog.push(name, Table::new_table(alloc, columns.clone()?))?;
+            Ok(Vec::new(alloc))
+        }
+    }
+}
+
+// The rows of a file, behind those that the table has.
+fn copy<F: Files>(
+    alloc: Global,
+    number: u32,
+    name: &Text,
+    file: &str,
+    catalog: &mut Catalog,
+    files: &mut F,
+) -> Result<Vec<u8>, Status>
+    ensures step { IfSome (F.holds files.old) (λ held.
+        IsStep (copied number catalog.old name.now (table_at catalog.old name.now) (get held file.now)) catalog.new (result_items result)) }
+    ensures holds { F.holds files.new ≡ F.holds files.old }
+    ensures later { F.faults files.old ≤ F.faults files.new }
+    ensures read_fault { result ≡ Err Status.ReadFault → Rose (F.faults files.old) (F.faults files.new) }
+    ensures kinds { IfErr result IsOfFiles }
+{
+    let name = small_letters(alloc, name.as_bytes())?;
+    if catalog.get(name.as_bytes()).is_none() {
+        return Err(not_built(number));
+    }
+    let bytes = read_file(alloc, number, files, file)?;
+    match catalog.load(alloc, name.as_bytes(), bytes.as_slice()) {
+        Ok(()) => Ok(Vec::new(alloc)),
+        Err(FormStop::NotBuilt) => Err(not_built(number)),
+        Err(FormStop::OutOfMemory) => Err(Status::OutOfMemory),
+    }
+}
+
+// Whether the names are those of columns, and the compared column is an INTEGER.
+fn is_asked(columns: &[Column], names: &Names, filter: &Filter) -> bool
+    ensures { result ≡ is_asked columns.now names.now filter.now }
+{
+    let names = names.as_slice();
+    is_count(names.len())
+        && have_columns(columns, names)
+        && has_integer(columns, filter.column.as_bytes())
+}
+
+// The rows that a filter keeps.
+fn choose(
+    alloc: Global,
+    number: u32,
+    name: &Text,
+    names: &Names,
+    filter: &Filter,
+    catalog: &Catalog,
+) -> Result<Vec<u8>, Status>
+    ensures step { IsStep (selected number catalog.now names.now filter.now (table_at catalog.now name.now)) catalog.now (result_items result) }
+    ensures kinds { IfErr result IsOfFiles }
+{
+    let name = small_letters(alloc, name.as_bytes())?;
+    match catalog.get(name.as_bytes()) {
+        Some(table) => {
+            if is_asked(table.schema(), names, filter) {
+                Ok(select(alloc, table, names, filter)?)
+            } else {
+                Err(not_built(number))
+            }
+        }
+        None => Err(not_built(number)),
+    }
+}
+
 /// Runs one statement over the catalog, and answers its block.
+#[tactic(auto, unfolding(crate::specs::Meaning::outcome))]
 pub fn run_statement<F: Files>(
     alloc: Global,
     settings: &Settings,
@@ -27,5 +174,14 @@ pub fn run_statement<F: Files>(
     ensures read_fault { result ≡ Err Status.ReadFault → Rose (F.faults files.old) (F.faults files.new) }
     ensures kinds { IfErr result IsOfFiles }
 {
-    Err(Status::OutOfMemory)
+    let _ = settings;
+    match statement {
+        Statement::Create { table, columns } => create(alloc, number, table, columns, catalog),
+        Statement::Copy { table, file } => copy(alloc, number, table, file.as_str(), catalog, files),
+        Statement::Select {
+            table,
+            names,
+            filter,
+        } => choose(alloc, number, table, names, filter, catalog),
+    }
 }

@@ -44,11 +44,11 @@ fn load_text(alloc: Global, table: &mut Table, text: &[u8]) -> Result<(), FormSt
 fn is_header(header: &[u8]) -> bool
     ensures { result ≡ is_header header.now }
 {
-    header.len() >= 1 && !is_special(header) && !header.starts_with(b"\xEF\xBB\xBF")
+    header.len() >= 1 && !has_quote_or_return(header) && !header.starts_with(b"\xEF\xBB\xBF")
 }
 
 // Whether a carriage return or a double quote stands in it.
-fn is_special(header: &[u8]) -> bool
+fn has_quote_or_return(header: &[u8]) -> bool
     ensures { result ≡ list_any (λ byte. byte == 13 || byte == 34) header.now }
 {
     header.iter().any(|byte| *byte == b'\r' || *byte == b'"')

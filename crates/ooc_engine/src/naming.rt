@@ -1,7 +1,7 @@
 //! Which texts of a script are names, file names and numbers.
 ghost use Rattle.std.specs.Prelude.{◌≡◌, ◌&&◌, nat_le, IsTrue, length};
 ghost use Rattle.std.specs.List.{list_all};
-ghost use Rattle.ooc_engine.specs.ScriptText.{is_small, is_of_files, is_digit, is_name, is_file_name, is_number, has_column, has_integer, is_integer, are_columns, is_plain, is_count, have_columns, number_of};
+ghost use Rattle.ooc_engine.specs.ScriptText.{is_small, is_of_files, is_digit, is_name, is_file_name, is_number, has_column, has_integer, is_integer, are_columns, is_plain, is_count, is_table, have_columns, number_of};
 
 use ooc_types::{Column, SqlType, Text};
 use sql_lex::word_of;
@@ -130,4 +130,11 @@ pub fn have_columns(columns: &[Column], names: &[Text]) -> bool
     ensures { result ≡ have_columns columns.now names.now }
 {
     names.iter().all(|name| has_column(columns, name.as_bytes()))
+}
+
+/// Whether there are 1 to 64 columns of the form's types.
+pub fn is_table(columns: &[Column]) -> bool
+    ensures { result ≡ is_table columns.now }
+{
+    is_count(columns.len()) && columns.iter().all(|column| is_plain(column))
 }

@@ -79,11 +79,7 @@ fn begin_with(layout: &Layout, image: &mut [u8], cells: &[CellIn])
 }
 
 /// A page with one row.
-pub fn page_of_row(
-    alloc: Global,
-    layout: &Layout,
-    cells: &[CellIn],
-) -> Result<Vec<u8>, OutOfMemory>
+pub fn page_of_row(alloc: Global, layout: &Layout, cells: &[CellIn]) -> Result<Vec<u8>, OutOfMemory>
     requires meets { Meets layout.now 12 cells.now }
     requires few { length layout.now ≤ 65 }
     ensures page { IfOk result (λ page. IsRowPage layout.now page.items) }

@@ -2,7 +2,7 @@
 ghost use Rattle.std.specs.Prelude.{◌≡◌, ◌<◌, ◌≤◌, ◌++◌, [], ◌∷◌, map, flat_map, length, All, IfOk, OnOk, IsTrue};
 ghost use Rattle.row_image.specs.Cells.{shown_cell};
 ghost use Rattle.row_image.specs.Image.{row_count, rows_of, stored_row};
-ghost use Rattle.result_print.specs.Printed.{block_text, field_text, value_text, line_text};
+ghost use Rattle.result_print.specs.Printed.{block_text, field_text, value_text, joined, line_text};
 ghost use Rattle.ooc_engine.specs.Meaning as spec;
 ghost use Rattle.ooc_engine.specs.Meaning.{place_of, picked_columns, picked_rows, is_asked, compares};
 ghost use Rattle.ooc_engine.specs.ScriptText.{has_column, have_columns};
@@ -87,12 +87,21 @@ fn places_of(alloc: Global, columns: &[Column], names: &[Text]) -> Result<Vec<u3
 fn push_names(names: &[Text], into: &mut Vec<u8>) -> Result<(), OutOfMemory>
     ensures { OnOk result (into.new.items ≡ into.old.items ++ line_text (map field_text names.now)) }
 {
-    if let Some((first, others)) = names.split_first() {
-        push_field(first.as_bytes(), into)?;
-        push_other_names(others, into)?;
-    }
+    push_all_names(names, into)?;
     into.push(b'\n')?;
     Ok(())
+}
+
+fn push_all_names(names: &[Text], into: &mut Vec<u8>) -> Result<(), OutOfMemory>
+    ensures { OnOk result (into.new.items ≡ into.old.items ++ joined (map field_text names.now)) }
+{
+    match names.split_first() {
+        Some((first, others)) => {
+            push_field(first.as_bytes(), into)?;
+            push_other_names(others, into)
+        }
+        None => Ok(()),
+    }
 }
 
 fn push_other_names(names: &[Text], into: &mut Vec<u8>) -> Result<(), OutOfMemory>
@@ -241,12 +250,30 @@ fn push_row(
     requires places { All (λ place. place < length layout.now) picked.now }
     ensures { OnOk result (into.new.items ≡ into.old.items ++ line_text (map (cell_text layout.now page.now row) picked.now)) }
 {
-    if let Some((first, others)) = picked.split_first() {
-        push_cell(read_cell(layout, page, row, *first), into)?;
-        push_other_cells(layout, page, row, others, into)?;
-    }
+    push_cells(layout, page, row, picked, into)?;
     into.push(b'\n')?;
     Ok(())
+}
+
+fn push_cells(
+    layout: &Layout,
+    page: &[u8],
+    row: u32,
+    places: &[u32],
+    into: &mut Vec<u8>,
+) -> Result<(), OutOfMemory>
+    requires page { IsRowPage layout.now page.now }
+    requires row { row < row_count page.now }
+    requires places { All (λ place. place < length layout.now) places.now }
+    ensures { OnOk result (into.new.items ≡ into.old.items ++ joined (map (cell_text layout.now page.now row) places.now)) }
+{
+    match places.split_first() {
+        Some((first, others)) => {
+            push_cell(read_cell(layout, page, row, *first), into)?;
+            push_other_cells(layout, page, row, others, into)
+        }
+        None => Ok(()),
+    }
 }
 
 fn push_other_cells(

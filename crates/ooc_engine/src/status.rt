@@ -3,6 +3,7 @@ ghost use Rattle.std.specs.Prelude.{◌≡◌};
 ghost use Rattle.ooc_engine.specs.Status.{code_of};
 
 use ooc_types::{OutOfMemory, RefusalKind};
+use std::alloc::AllocError;
 
 /// What is wrong with the words of the command line.
 #[derive(Clone, Copy, Debug, PartialEq, Eq)]
@@ -49,6 +50,16 @@ impl From<OutOfMemory> for Status {
     ghost from_gives = { λ _ status. status ≡ OutOfMemory };
 
     fn from(_: OutOfMemory) -> Status {
+        Status::OutOfMemory
+    }
+}
+
+impl From<AllocError> for Status {
+    ghost use Rattle.ooc_engine.specs.declared.status.Status.TheVariants.{OutOfMemory};
+
+    ghost from_gives = { λ _ status. status ≡ OutOfMemory };
+
+    fn from(_: AllocError) -> Status {
         Status::OutOfMemory
     }
 }

@@ -56,7 +56,7 @@ fn push_quoted(bytes: &[u8], into: &mut Vec<u8>) -> Result<(), OutOfMemory>
 }
 
 // The text or name as a field.
-fn push_field(bytes: &[u8], into: &mut Vec<u8>) -> Result<(), OutOfMemory>
+pub fn push_field(bytes: &[u8], into: &mut Vec<u8>) -> Result<(), OutOfMemory>
     ensures ok { OnOk result (into.new.items ≡ into.old.items ++ field_text bytes.now) }
     ensures err { OnErr result (KeepsFront into.old.items into.new.items) }
 {

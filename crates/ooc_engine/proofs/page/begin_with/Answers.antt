@@ -1,4 +1,4 @@
-use Rattle.std.proofs.Common.{◌≡◌, ◌++◌, ◌∷◌, [], true, false, Bool, ap, sym, ◌∙◌, refl}
+use Rattle.std.proofs.Common.{◌≡◌, ◌++◌, ◌∷◌, [], true, ap, sym, ◌∙◌}
 use Rattle.row_image.specs.Parts.{given_row}
 use Rattle.ooc_engine.proofs.PageLemmas.{no_rows, some_fit, not_false}
 use Rattle.ooc_engine.proofs.page.begin_with.Goals as goal

@@ -1,5 +1,4 @@
-use Rattle.std.proofs.Common.{◌≡◌, inl, inr, refl, sym, ap, ◌∙◌}
-use Rattle.row_image.specs.declared.image.RowPut.{RowPut}
+use Rattle.std.proofs.Common.{◌≡◌, inl, inr, refl, ap, ◌∙◌}
 use Rattle.row_image.specs.declared.image.RowPut.TheVariants.{Wrote}
 use Rattle.row_image.specs.Image.{row_count, parts_of}
 use Rattle.row_image.specs.Layout.{rows_that_fit, has_texts}
@@ -27,7 +26,7 @@ returns-in-PageFull c =
     let other : c.write_row.result ≡ Wrote → ⊥ = λ w. elim c.in-PageFull.is [ inl e ↦ cc | inr e ↦ cc ] in
     let same : c.write_row.new.image ≡ c.args.page.now = c.write_row.ensures.unchanged other in
     let full : row_count c.args.page.now ≡ rows_that_fit c.args.layout.now 4096 = elim c.in-PageFull.is [
-      inl e ↦ c.write_row.ensures.page_full.0 e ∙ ap (rows_that_fit c.args.layout.now) c.requires.page.whole
+      | inl e ↦ c.write_row.ensures.page_full.0 e ∙ ap (rows_that_fit c.args.layout.now) c.requires.page.whole
       | inr e ↦ absurd (no_fifth _ _ c.requires.page.few (c.write_row.ensures.parts_full.0 e).1)
     ] in
     record { page = rw same c.requires.page; put = λ e. cc; full = (λ e. full, λ e. refl); unchanged = λ e. same }

@@ -1,5 +1,4 @@
-use Rattle.std.proofs.Common.{◌≡◌, ◌+◌, ◌-◌, length, take, drop, add-one, arith, ap, ◌∙◌, sym}
-use Rattle.std.specs.Prelude.{◌==◌}
+use Rattle.std.proofs.Common.{◌+◌, add-one, arith}
 use Rattle.std.proofs.lemmas.List.{take_rest}
 use Rattle.ooc_engine.proofs.SplitLemmas.{cut_at, uncut}
 use Rattle.ooc_engine.proofs.split.first_part.Goals as goal

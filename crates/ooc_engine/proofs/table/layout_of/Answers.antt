@@ -1,4 +1,4 @@
-use Rattle.std.proofs.Common.{◌≡◌, ◌<◌, ◌≤◌, length, length-set, arith, rules, ◌∙◌}
+use Rattle.std.proofs.Common.{◌<◌, ◌≤◌, length, length-set, arith, ◌∙◌}
 use Rattle.ooc_engine.proofs.TableLemmas.{all_kinds, kinds_more, few_columns}
 use Rattle.ooc_engine.proofs.table.layout_of.Goals as goal
 
