@@ -1,5 +1,5 @@
 //! From the program's arguments to a run of the engine.
-ghost use Rattle.std.specs.Prelude.{◌≡◌, IfOk, vec_len};
+ghost use Rattle.std.specs.Prelude.{◌≡◌, ◌≢◌, Err, IfOk, vec_len};
 ghost use Rattle.ooc_engine.specs.Ends.{HasWriteCause};
 
 use ooc_engine::{Status, UsageFault, end, run_script};
@@ -24,12 +24,27 @@ fn lanes(alloc: Global) -> Result<Vec<MemLane>, OutOfMemory>
     Ok(lanes)
 }
 
-// Why the arguments can't be had: one isn't UTF-8, or memory ran out.
-fn refused(error: &io::Error) -> Status {
+// Why the arguments can't be had: memory ran out, or one of them isn't UTF-8 and so is a faulty word.
+fn refused(error: &io::Error) -> Status
+    ensures { result ≢ Status.WriteFault }
+{
     if error.kind() == io::ErrorKind::OutOfMemory {
         Status::OutOfMemory
     } else {
         Status::Usage(UsageFault::Words)
+    }
+}
+
+// The words behind the program's name.
+fn words_in(alloc: Global, args: io::Result<Args>) -> Result<Vec<String>, Status>
+    ensures { result ≢ Err Status.WriteFault }
+{
+    match args {
+        Ok(args) => match args.skip(1).collect(alloc) {
+            Ok(words) => Ok(words),
+            Err(_) => Err(Status::OutOfMemory),
+        },
+        Err(error) => Err(refused(&error)),
     }
 }
 
@@ -43,15 +58,14 @@ pub fn run<R: Threads + Wait + Sync, F: Files, K: Sink>(
 ) -> Status
     ensures cause { HasWriteCause (K.faults out.old) (K.faults out.new) result }
 {
-    let words = match args {
-        Ok(args) => args,
-        Err(error) => return end(alloc, out, refused(&error)),
+    let words = match words_in(alloc, args) {
+        Ok(words) => words,
+        Err(status) => return end(alloc, out, status),
     };
     let mut lanes = match lanes(alloc) {
         Ok(lanes) => lanes,
         Err(_) => return end(alloc, out, Status::OutOfMemory),
     };
     let words = words.as_slice();
-    let words = words.get(1..).unwrap_or(&[]);
     run_script(rt, alloc, words, files, out, lanes.as_mut_slice(), &NoGate)
 }
