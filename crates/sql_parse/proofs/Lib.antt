@@ -1,0 +1,10 @@
+mod Sets
+mod Firsts
+mod Laws
+mod ManyLaws
+mod Forms
+mod Lasts
+mod Tame
+mod Grown
+mod Rules
+mod Exact

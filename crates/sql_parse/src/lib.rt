@@ -1,0 +1,5 @@
+//! The grammar of SQL scripts.
+#![tactic(auto)]
+
+mod fault;
+pub mod tree;
