@@ -4,11 +4,11 @@ use Rattle.sql_parse.specs.Lexeme.{Lexeme, is_among, sees, first, tail}
 use Rattle.sql_parse.specs.declared.fault.Fault.TheVariants.{Syntax, TooDeep}
 use Rattle.sql_parse.specs.Form.{Sort, Value, Form, empty, one, both, either, many, nest, marked, phrase}
 use Rattle.sql_parse.specs.Derives.{Language, Inner, One, Both, Many, none, Nest, Marked, Phrase, derives}
-use Rattle.sql_parse.specs.Reading.{Outcome, Parser, and_then, nullable, begins, many_from, opened, Readers, read}
+use Rattle.sql_parse.specs.Reading.{Outcome, Parser, and_then, nullable, begins, many_from, Readers, read}
 use Rattle.sql_parse.specs.Sound.{firsts, goes_on, alive, disjoint, within, ◌and◌, opposite, is_sound}
 use Rattle.sql_parse.proofs.Sets.{left_of, right_of, is_false, apart, unseen_left, unseen_right}
 use Rattle.sql_parse.proofs.Firsts.{begins_is, Starts, StartsOr, starts}
-use Rattle.sql_parse.proofs.Laws.{Viable, Says, IsRight, empty_says, one_right, one_complete, both_right, both_viable, both_complete, look_says, wider, nest_right, nest_complete, deep_right, marked_says, marked_complete, phrase_says, phrase_complete, other_complete}
+use Rattle.sql_parse.proofs.Laws.{Viable, Says, IsRight, entered, empty_says, one_right, one_complete, both_right, both_viable, both_complete, look_says, wider, nest_right, nest_complete, deep_right, marked_says, marked_complete, phrase_says, phrase_complete, other_complete}
 use Rattle.sql_parse.proofs.ManyLaws.{Begins, many_right, many_complete}
 
 -- at a phrase, the rule beside it stops at its third token
@@ -63,7 +63,7 @@ viable m (phrase classes two three f p) e = let v = viable m p e in (v.0, v.1, i
 
 module _ (n : Readers) (m : Inner) (last : Sort → List ℕ) (inner : (s : Sort) → SortRight s (n s) (m s) (last s)) where
   nest_says : {A : Type 0} (opener : ℕ) (s : Sort) (f : Lexeme → Value s → A) (o : Option (Parser (Value s))) → SortRight s o (m s) (last s) → (w : List Lexeme)
-      → Says (λ w. if sees (opener ∷ []) (first w) then opened f o w else Err (Syntax, w)) (Nest opener f (m s)) w (if sees (opener ∷ []) (first w) then opened f o w else Err (Syntax, w))
+      → Says (λ w. if sees (opener ∷ []) (first w) then entered f o w else Err (Syntax, w)) (Nest opener f (m s)) w (if sees (opener ∷ []) (first w) then entered f o w else Err (Syntax, w))
   nest_says opener s f None h w = deep_right opener f (m s) w
   nest_says opener s f (Some P) h w = nest_right opener f P (m s) h.right h.some w
 
@@ -155,7 +155,7 @@ module _ (n : Readers) (m : Inner) (last : Sort → List ℕ) (inner : (s : Sort
       (unseen_left (first r) (goes_on last p) (firsts p) h) (begins_is p (first r) ∙ unseen_right (first r) (goes_on last p) (firsts p) h)
   complete (nest opener s f) e t a u r d h = go (n s) (inner s)
     where
-      go : (o : Option (Parser (Value s))) → SortRight s o (m s) (last s) → (if sees (opener ∷ []) (first (u ++ r)) then opened f o (u ++ r) else Err (Syntax, u ++ r)) ≡ Ok (a, r)
+      go : (o : Option (Parser (Value s))) → SortRight s o (m s) (last s) → (if sees (opener ∷ []) (first (u ++ r)) then entered f o (u ++ r) else Err (Syntax, u ++ r)) ≡ Ok (a, r)
       go None k = absurd (k d.value d.rest d.inside)
       go (Some P) k = nest_complete opener f P (m s) a u r d (k.complete d.value d.rest r d.inside h)
   complete (marked f p) e t a u r s h = marked_complete f (read n p) (derives m p) a u r s (complete p (left_of (is_sound last p) (opposite (nullable p)) e) t s.value u r s.spelled h)

@@ -1,10 +1,11 @@
 -- A reading that may nest one level more does the same, except where the first says that it is too deep: there it goes on.
 use Rattle.std.proofs.Common.{◌≡◌, ℕ, zero, suc, List, [], ◌∷◌, ◌++◌, length, Option, Some, None, Result, Ok, Err, Bool, true, false, refl, sym, ◌∙◌, ap, subst, append_assoc, if◌then◌else◌, ◌⊎◌, inl, inr}
-use Rattle.sql_parse.specs.Lexeme.{Lexeme, is_among, sees, first, tail}
+use Rattle.sql_parse.specs.Lexeme.{Lexeme, is_among, sees, first, tail, lexeme_at}
 use Rattle.sql_parse.specs.declared.fault.Fault.{Fault}
 use Rattle.sql_parse.specs.declared.fault.Fault.TheVariants.{Syntax, TooDeep, OutOfMemory}
 use Rattle.sql_parse.specs.Form.{Sort, Value, Form, empty, one, both, either, many, nest, marked, phrase}
-use Rattle.sql_parse.specs.Reading.{Outcome, Parser, and_then, nullable, begins, taken, many_from, inside, opened, sees_phrase, Readers, read}
+use Rattle.sql_parse.specs.Reading.{Outcome, Parser, and_then, nullable, begins, taken, many_from, sees_phrase, Readers, read}
+use Rattle.sql_parse.proofs.Laws.{entered, inside}
 
 abbrev pub rest_of : {A : Type 0} → Outcome A → List Lexeme
 rest_of (Ok p) = p.1
@@ -53,8 +54,7 @@ then_falls g each w (Ok p) h = over w p.1 (rest_of (g p.0 p.1)) h (each p.0 p.1)
 then_falls g each w (Err q) h = h
 
 taken_falls : {A : Type 0} (f : Lexeme → A) (o : Option Lexeme) (w : List Lexeme) → Falls w (rest_of (taken f o w))
-taken_falls f None w = stays w
-taken_falls f (Some x) w = stays w
+taken_falls f x w = stays w
 
 many_falls : {A : Type 0} (starts : Option Lexeme → Bool) (p : Parser A) → ((w : List Lexeme) → Falls w (rest_of (p w))) → (k : ℕ) (w : List Lexeme) → Falls w (rest_of (many_from starts p k w))
 unfolding many_from
@@ -72,13 +72,9 @@ abbrev pub EachFalls : {A : Type 0} → Option (Parser A) → Type 0
 EachFalls None = Unit {0}
 EachFalls (Some P) = (w : List Lexeme) → Falls w (rest_of (P w))
 
-opened_falls : {A B : Type 0} (f : Lexeme → A → B) (o : Option (Parser A)) → EachFalls o → (w : List Lexeme) → Falls w (rest_of (opened f o w))
+opened_falls : {A B : Type 0} (f : Lexeme → A → B) (o : Option (Parser A)) → EachFalls o → (w : List Lexeme) → Falls w (rest_of (entered f o w))
 opened_falls f None h w = stays w
-opened_falls f (Some P) h w = go (first w)
-  where
-    go : (x : Option Lexeme) → Falls w (rest_of (inside f P x (tail w)))
-    go None = tail_falls w
-    go (Some x) = over w (tail w) (rest_of (inside f P (Some x) (tail w))) (tail_falls w) (then_falls (λ a r. Ok (f x a, r)) (λ a r. stays r) (tail w) (P (tail w)) (h (tail w)))
+opened_falls f (Some P) h w = over w (tail w) (rest_of (inside f P (first w) (tail w))) (tail_falls w) (then_falls (λ a r. Ok (f (lexeme_at (first w)) a, r)) (λ a r. stays r) (tail w) (P (tail w)) (h (tail w)))
 
 if_falls : {A : Type 0} (b : Bool) (w : List Lexeme) (o p : Outcome A) → Falls w (rest_of o) → Falls w (rest_of p) → Falls w (rest_of (if b then o else p))
 if_falls true w o p h k = h
@@ -90,7 +86,7 @@ falls n h (one classes f) w = if_falls (sees classes (first w)) w (taken f (firs
 falls n h (both f p q) w = then_falls (λ a r. and_then (read n q r) (λ b s. Ok (f a b, s))) (λ a r. then_falls (λ b s. Ok (f a b, s)) (λ b s. stays s) r (read n q r) (falls n h q r)) w (read n p w) (falls n h p w)
 falls n h (either p q) w = if_falls (begins p (first w)) w (read n p w) (read n q w) (falls n h p w) (falls n h q w)
 falls n h (many p) w = many_falls (begins p) (read n p) (falls n h p) (length w) w
-falls n h (nest opener s f) w = if_falls (sees (opener ∷ []) (first w)) w (opened f (n s) w) (Err (Syntax, w)) (opened_falls f (n s) (h s) w) (stays w)
+falls n h (nest opener s f) w = if_falls (sees (opener ∷ []) (first w)) w (entered f (n s) w) (Err (Syntax, w)) (opened_falls f (n s) (h s) w) (stays w)
 falls n h (marked f p) w = then_falls (λ a r. taken (λ x. f x a) (first w) r) (λ a r. taken_falls (λ x. f x a) (first w) r) w (read n p w) (falls n h p w)
 falls n h (phrase classes two three f p) w = if_falls (sees_phrase classes two three w) w (taken f (first w) (tail (tail (tail w)))) (read n p w)
     (over w (tail (tail (tail w))) (rest_of (taken f (first w) (tail (tail (tail w))))) (over w (tail (tail w)) (tail (tail (tail w))) (over w (tail w) (tail (tail w)) (tail_falls w) (tail_falls (tail w))) (tail_falls (tail (tail w)))) (taken_falls f (first w) (tail (tail (tail w)))))
@@ -113,8 +109,7 @@ module _ {A B : Type 0} (f g : A → Parser B) (next : (a : A) (r : List Lexeme)
   grown_then (Err q) p e = grown_err q.0 q.1 p e
 
 same_grown : {A : Type 0} (f : Lexeme → A) (o : Option Lexeme) (w : List Lexeme) → Grown (taken f o w) (taken f o w)
-same_grown f None w = refl
-same_grown f (Some x) w = refl
+same_grown f x w = refl
 
 if_grown : {A : Type 0} (b : Bool) (o p o2 p2 : Outcome A) → Grown o o2 → Grown p p2 → Grown (if b then o else p) (if b then o2 else p2)
 if_grown true o p o2 p2 h k = h
@@ -127,16 +122,16 @@ EachGrown None (Some Q) = (w : List Lexeme) → Falls w (rest_of (Q w))
 EachGrown (Some P) None = ⊥
 EachGrown (Some P) (Some Q) = ((w : List Lexeme) → Grown (P w) (Q w))
 
-opened_at : {A B : Type 0} (f : Lexeme → A → B) (o o2 : Option (Parser A)) → EachGrown o o2 → (x : Lexeme) (w : List Lexeme) → Grown (opened f o (x ∷ w)) (opened f o2 (x ∷ w))
+opened_at : {A B : Type 0} (f : Lexeme → A → B) (o o2 : Option (Parser A)) → EachGrown o o2 → (x : Lexeme) (w : List Lexeme) → Grown (entered f o (x ∷ w)) (entered f o2 (x ∷ w))
 opened_at f None None g x w = absurd g
 opened_at f None (Some Q) g x w = let t = then_falls (λ a r. Ok (f x a, r)) (λ a r. stays r) w (Q w) (g w) in record { token = x; more = t.front; whole = ap (λ z. x ∷ z) t.whole }
 opened_at f (Some P) None g x w = absurd g
 opened_at f (Some P) (Some Q) g x w = grown_then (λ a r. Ok (f x a, r)) (λ a r. Ok (f x a, r)) (λ a r. refl) (λ a r. stays r) (P w) (Q w) (g w)
 
 nest_grown : {A B : Type 0} (opener : ℕ) (f : Lexeme → A → B) (o o2 : Option (Parser A)) → EachGrown o o2 → (w : List Lexeme)
-    → Grown (if sees (opener ∷ []) (first w) then opened f o w else Err (Syntax, w)) (if sees (opener ∷ []) (first w) then opened f o2 w else Err (Syntax, w))
+    → Grown (if sees (opener ∷ []) (first w) then entered f o w else Err (Syntax, w)) (if sees (opener ∷ []) (first w) then entered f o2 w else Err (Syntax, w))
 nest_grown opener f o o2 g [] = refl
-nest_grown opener f o o2 g (x ∷ w) = if_grown (is_among x.class (opener ∷ [])) (opened f o (x ∷ w)) (Err (Syntax, x ∷ w)) (opened f o2 (x ∷ w)) (Err (Syntax, x ∷ w)) (opened_at f o o2 g x w) refl
+nest_grown opener f o o2 g (x ∷ w) = if_grown (is_among x.class (opener ∷ [])) (entered f o (x ∷ w)) (Err (Syntax, x ∷ w)) (entered f o2 (x ∷ w)) (Err (Syntax, x ∷ w)) (opened_at f o o2 g x w) refl
 
 module _ (n n2 : Readers) (h : (s : Sort) → EachFalls (n2 s)) (each : (s : Sort) → EachGrown (n s) (n2 s)) where
   many_grown : {A : Type 0} (starts : Option Lexeme → Bool) (p q : Parser A) → ((w : List Lexeme) → Grown (p w) (q w)) → ((w : List Lexeme) → Falls w (rest_of (q w))) → (k : ℕ) (w : List Lexeme) → Grown (many_from starts p k w) (many_from starts q k w)

@@ -1,11 +1,11 @@
 -- What holds of a parser and of the language that it reads, part by part.
 use Rattle.std.proofs.Common.{◌≡◌, ℕ, List, [], ◌∷◌, ◌++◌, Option, Some, None, Result, Ok, Err, Bool, true, false, refl, sym, ◌∙◌, ap, subst, append_assoc, if◌then◌else◌, ◌⊎◌, inl, inr}
 use Rattle.std.proofs.lemmas.List.{append_cancel_right}
-use Rattle.sql_parse.specs.Lexeme.{Lexeme, first, tail, sees, is_among}
+use Rattle.sql_parse.specs.Lexeme.{Lexeme, first, tail, sees, is_among, lexeme_at}
 use Rattle.sql_parse.specs.declared.fault.Fault.{Fault}
 use Rattle.sql_parse.specs.declared.fault.Fault.TheVariants.{Syntax, TooDeep}
 use Rattle.sql_parse.specs.Derives.{Language, One, Both, Nest, Marked, Phrase}
-use Rattle.sql_parse.specs.Reading.{Outcome, Parser, and_then, taken, inside, opened, sees_phrase}
+use Rattle.sql_parse.specs.Reading.{Outcome, Parser, and_then, taken, opened, sees_phrase}
 
 -- some word goes on from these tokens
 abbrev pub Viable : {A : Type 0} → (A → List Lexeme → Type 0) → List Lexeme → Type 0
@@ -154,9 +154,15 @@ wider P L M more w (Err p) s = record { front = s.front; whole = s.whole; viable
 
 -- ---- a level deeper
 
+abbrev pub entered : {A B : Type 0} → (Lexeme → A → B) → Option (Parser A) → Parser B
+entered f o w = and_then (opened o w) (λ a r. Ok (f (lexeme_at (first w)) a, r))
+
+abbrev pub inside : {A B : Type 0} → (Lexeme → A → B) → Parser A → Option Lexeme → Parser B
+inside f p x w = and_then (p w) (λ a r. Ok (f (lexeme_at x) a, r))
+
 module _ {A B : Type 0} (opener : ℕ) (f : Lexeme → A → B) (P : Parser A) (L : Language A) where
   abbrev pub nest_read : Parser B
-  nest_read w = if sees (opener ∷ []) (first w) then opened f (Some P) w else Err (Syntax, w)
+  nest_read w = if sees (opener ∷ []) (first w) then entered f (Some P) w else Err (Syntax, w)
 
   nest_seen : (x : Lexeme) (r : List Lexeme) → is_among x.class (opener ∷ []) ≡ true → nest_read (x ∷ r) ≡ and_then (P r) (λ a s. Ok (f x a, s))
   nest_seen x r e = ap (λ (b : Bool). if b then inside f P (Some x) r else Err (Syntax, x ∷ r)) e
@@ -198,7 +204,7 @@ module _ {A B : Type 0} (opener : ℕ) (f : Lexeme → A → B) (P : Parser A) (
 -- where nothing may nest
 module _ {A B : Type 0} (opener : ℕ) (f : Lexeme → A → B) (L : Language A) where
   abbrev pub deep_read : Parser B
-  deep_read w = if sees (opener ∷ []) (first w) then opened f None w else Err (Syntax, w)
+  deep_read w = if sees (opener ∷ []) (first w) then entered f None w else Err (Syntax, w)
 
   deep_cases : (w : List Lexeme) (b : Bool) → sees (opener ∷ []) (first w) ≡ b → Says deep_read (Nest opener f L) w (if b then Err (TooDeep, w) else Err (Syntax, w))
   deep_cases w true e = record { front = []; whole = refl; viable = inl refl; again = λ r h. ap (λ o. if sees (opener ∷ []) o then Err (TooDeep, r) else Err (Syntax, r)) h ∙ ap (λ (b : Bool). if b then Err (TooDeep, r) else Err (Syntax, r)) e }

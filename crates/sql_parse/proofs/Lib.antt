@@ -8,3 +8,6 @@ mod Tame
 mod Grown
 mod Rules
 mod Exact
+mod Turning
+mod Deeper
+mod Lists

@@ -24,3 +24,8 @@ first (x ∷ w) = Some x
 abbrev pub tail : List Lexeme → List Lexeme
 tail [] = []
 tail (x ∷ w) = w
+
+-- the next token, where there is one
+abbrev pub lexeme_at : Option Lexeme → Lexeme
+lexeme_at None = record { class = 0; start = 0; end = 0 }
+lexeme_at (Some x) = x

@@ -11,3 +11,4 @@ pub mod Statements
 pub mod Nesting
 pub mod Verdict
 pub mod Whole
+pub mod Lexemes

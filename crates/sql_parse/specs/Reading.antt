@@ -1,6 +1,6 @@
 -- How a rule of the grammar is read, token by token: a choice is made by the next token.
 use Rattle.std.specs.Prelude.{ℕ, zero, suc, List, [], ◌∷◌, length, Option, Some, None, Result, Ok, Err, if◌then◌else◌, Bool, true, false}
-use Rattle.sql_parse.specs.Lexeme.{Lexeme, sees, first, tail}
+use Rattle.sql_parse.specs.Lexeme.{Lexeme, sees, first, tail, lexeme_at}
 use Rattle.sql_parse.specs.Form.{Sort, Value, Form, empty, one, both, either, many, nest, marked, phrase}
 use Rattle.sql_parse.specs.declared.fault.Fault.{Fault}
 use Rattle.sql_parse.specs.declared.fault.Fault.TheVariants.{Syntax, TooDeep}
@@ -39,8 +39,7 @@ begins (marked f p) x = begins p x
 begins (phrase classes second third f p) x = if sees classes x then true else begins p x
 
 abbrev pub taken : {A : Type 0} → (Lexeme → A) → Option Lexeme → Parser A
-taken f None w = Err (Syntax, w)
-taken f (Some x) w = Ok (f x, w)
+taken f x w = Ok (f (lexeme_at x), w)
 
 -- as often as the next token begins one; the number bounds it, and each takes a token
 unfoldable pub many_from : {A : Type 0} → (Option Lexeme → Bool) → Parser A → ℕ → Parser (List A)
@@ -49,14 +48,10 @@ many_from starts p (suc k) w = if starts (first w)
     then and_then (p w) (λ a r. and_then (many_from starts p k r) (λ list s. Ok (a ∷ list, s)))
     else Ok ([], w)
 
--- one level deeper, behind the token that opens it
-abbrev pub inside : {A B : Type 0} → (Lexeme → A → B) → Parser A → Option Lexeme → Parser B
-inside f p None w = Err (Syntax, w)
-inside f p (Some x) w = and_then (p w) (λ a r. Ok (f x a, r))
-
-abbrev pub opened : {A B : Type 0} → (Lexeme → A → B) → Option (Parser A) → Parser B
-opened f None w = Err (TooDeep, w)
-opened f (Some p) w = inside f p (first w) (tail w)
+-- one level deeper, behind the token that opens it, or too deep
+abbrev pub opened : {A : Type 0} → Option (Parser A) → Parser A
+opened None w = Err (TooDeep, w)
+opened (Some p) w = p (tail w)
 
 abbrev pub sees_phrase : List ℕ → ℕ → ℕ → List Lexeme → Bool
 sees_phrase classes second third w = if sees classes (first w)
@@ -73,7 +68,7 @@ read n (one classes f) w = if sees classes (first w) then taken f (first w) (tai
 read n (both f p q) w = and_then (read n p w) (λ a r. and_then (read n q r) (λ b s. Ok (f a b, s)))
 read n (either p q) w = if begins p (first w) then read n p w else read n q w
 read n (many p) w = many_from (begins p) (read n p) (length w) w
-read n (nest opener s f) w = if sees (opener ∷ []) (first w) then opened f (n s) w else Err (Syntax, w)
+read n (nest opener s f) w = if sees (opener ∷ []) (first w) then and_then (opened (n s) w) (λ a r. Ok (f (lexeme_at (first w)) a, r)) else Err (Syntax, w)
 read n (marked f p) w = and_then (read n p w) (λ a r. taken (λ x. f x a) (first w) r)
 read n (phrase classes second third f p) w = if sees_phrase classes second third w
     then taken f (first w) (tail (tail (tail w)))
