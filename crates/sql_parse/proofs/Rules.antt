@@ -20,6 +20,7 @@ use Rattle.sql_parse.proofs.Tame.{body_tame, script_tame}
 use Rattle.sql_parse.proofs.Grown.{EachFalls, EachGrown, Grown, Falls, rest_of, falls, grown, grown_then}
 
 pub rules : (d : ℕ) (s : Sort) → SortRight s (readers d s) (nested d s) (last s)
+unfolding readers
 rules zero s = λ a u h. absurd h
 rules (suc d) s = record {
   right = right (readers d) (nested d) last (rules d) (body s) (body_sound s) (body_tame (readers d) s);
@@ -28,10 +29,12 @@ rules (suc d) s = record {
 }
 
 pub each_falls : (d : ℕ) (s : Sort) → EachFalls (readers d s)
+unfolding readers
 each_falls zero s = tt
 each_falls (suc d) s = falls (readers d) (each_falls d) (body s)
 
 pub each_grown : (d : ℕ) (s : Sort) → EachGrown (readers d s) (readers (suc d) s)
+unfolding readers
 each_grown zero s = falls (readers 0) (each_falls 0) (body s)
 each_grown (suc d) s = grown (readers d) (readers (suc d)) (each_falls (suc d)) (each_grown d) (body s)
 

@@ -101,31 +101,31 @@ module _ (n : Readers) where
   item_tame = (tt, (value_item_tame, stops))
 
   sources_tame : IsTame n (word w.From >> q.sources)
-  unfolding e.literal e.column_name e.named e.group e.atom e.unary e.term_sign e.term_link e.term e.sum_sign e.sum_link e.sum e.compare_sign e.comparison e.null_test e.like e.one_of e.between e.constant e.range_test e.test e.pred e.neg e.and_operand e.conj e.or_operand e.expr q.alias q.condition q.subquery q.source q.join_word q.join q.sources q.direction q.key q.filter q.grouping q.having q.ordering q.limit q.offset
+  unfolding e.literal e.column_name e.named e.group e.atom e.unary e.term_sign e.term_link e.term e.sum_sign e.sum_link e.sum e.compare_sign e.comparison e.null_test e.like e.one_of e.between e.constant e.range_test e.test e.pred e.neg e.and_operand e.conj e.or_operand e.expr q.alias q.condition q.subquery q.subquery_source q.source q.join_word q.join q.sources q.direction q.key_column q.key q.filter q.grouping q.having q.ordering q.limit q.offset
   sources_tame = plain n (word w.From >> q.sources) refl
 
   filter_tame : IsTame n (q.filter)
-  unfolding e.literal e.column_name e.named e.group e.atom e.unary e.term_sign e.term_link e.term e.sum_sign e.sum_link e.sum e.compare_sign e.comparison e.null_test e.like e.one_of e.between e.constant e.range_test e.test e.pred e.neg e.and_operand e.conj e.or_operand e.expr q.alias q.condition q.subquery q.source q.join_word q.join q.sources q.direction q.key q.filter q.grouping q.having q.ordering q.limit q.offset
+  unfolding e.literal e.column_name e.named e.group e.atom e.unary e.term_sign e.term_link e.term e.sum_sign e.sum_link e.sum e.compare_sign e.comparison e.null_test e.like e.one_of e.between e.constant e.range_test e.test e.pred e.neg e.and_operand e.conj e.or_operand e.expr q.alias q.condition q.subquery q.subquery_source q.source q.join_word q.join q.sources q.direction q.key_column q.key q.filter q.grouping q.having q.ordering q.limit q.offset
   filter_tame = plain n (q.filter) refl
 
   grouping_tame : IsTame n (q.grouping)
-  unfolding e.literal e.column_name e.named e.group e.atom e.unary e.term_sign e.term_link e.term e.sum_sign e.sum_link e.sum e.compare_sign e.comparison e.null_test e.like e.one_of e.between e.constant e.range_test e.test e.pred e.neg e.and_operand e.conj e.or_operand e.expr q.alias q.condition q.subquery q.source q.join_word q.join q.sources q.direction q.key q.filter q.grouping q.having q.ordering q.limit q.offset
+  unfolding e.literal e.column_name e.named e.group e.atom e.unary e.term_sign e.term_link e.term e.sum_sign e.sum_link e.sum e.compare_sign e.comparison e.null_test e.like e.one_of e.between e.constant e.range_test e.test e.pred e.neg e.and_operand e.conj e.or_operand e.expr q.alias q.condition q.subquery q.subquery_source q.source q.join_word q.join q.sources q.direction q.key_column q.key q.filter q.grouping q.having q.ordering q.limit q.offset
   grouping_tame = plain n (q.grouping) refl
 
   having_tame : IsTame n (q.having)
-  unfolding e.literal e.column_name e.named e.group e.atom e.unary e.term_sign e.term_link e.term e.sum_sign e.sum_link e.sum e.compare_sign e.comparison e.null_test e.like e.one_of e.between e.constant e.range_test e.test e.pred e.neg e.and_operand e.conj e.or_operand e.expr q.alias q.condition q.subquery q.source q.join_word q.join q.sources q.direction q.key q.filter q.grouping q.having q.ordering q.limit q.offset
+  unfolding e.literal e.column_name e.named e.group e.atom e.unary e.term_sign e.term_link e.term e.sum_sign e.sum_link e.sum e.compare_sign e.comparison e.null_test e.like e.one_of e.between e.constant e.range_test e.test e.pred e.neg e.and_operand e.conj e.or_operand e.expr q.alias q.condition q.subquery q.subquery_source q.source q.join_word q.join q.sources q.direction q.key_column q.key q.filter q.grouping q.having q.ordering q.limit q.offset
   having_tame = plain n (q.having) refl
 
   ordering_tame : IsTame n (q.ordering)
-  unfolding e.literal e.column_name e.named e.group e.atom e.unary e.term_sign e.term_link e.term e.sum_sign e.sum_link e.sum e.compare_sign e.comparison e.null_test e.like e.one_of e.between e.constant e.range_test e.test e.pred e.neg e.and_operand e.conj e.or_operand e.expr q.alias q.condition q.subquery q.source q.join_word q.join q.sources q.direction q.key q.filter q.grouping q.having q.ordering q.limit q.offset
+  unfolding e.literal e.column_name e.named e.group e.atom e.unary e.term_sign e.term_link e.term e.sum_sign e.sum_link e.sum e.compare_sign e.comparison e.null_test e.like e.one_of e.between e.constant e.range_test e.test e.pred e.neg e.and_operand e.conj e.or_operand e.expr q.alias q.condition q.subquery q.subquery_source q.source q.join_word q.join q.sources q.direction q.key_column q.key q.filter q.grouping q.having q.ordering q.limit q.offset
   ordering_tame = plain n (q.ordering) refl
 
   limit_tame : IsTame n (q.limit)
-  unfolding e.literal e.column_name e.named e.group e.atom e.unary e.term_sign e.term_link e.term e.sum_sign e.sum_link e.sum e.compare_sign e.comparison e.null_test e.like e.one_of e.between e.constant e.range_test e.test e.pred e.neg e.and_operand e.conj e.or_operand e.expr q.alias q.condition q.subquery q.source q.join_word q.join q.sources q.direction q.key q.filter q.grouping q.having q.ordering q.limit q.offset
+  unfolding e.literal e.column_name e.named e.group e.atom e.unary e.term_sign e.term_link e.term e.sum_sign e.sum_link e.sum e.compare_sign e.comparison e.null_test e.like e.one_of e.between e.constant e.range_test e.test e.pred e.neg e.and_operand e.conj e.or_operand e.expr q.alias q.condition q.subquery q.subquery_source q.source q.join_word q.join q.sources q.direction q.key_column q.key q.filter q.grouping q.having q.ordering q.limit q.offset
   limit_tame = plain n (q.limit) refl
 
   offset_tame : IsTame n (q.offset)
-  unfolding e.literal e.column_name e.named e.group e.atom e.unary e.term_sign e.term_link e.term e.sum_sign e.sum_link e.sum e.compare_sign e.comparison e.null_test e.like e.one_of e.between e.constant e.range_test e.test e.pred e.neg e.and_operand e.conj e.or_operand e.expr q.alias q.condition q.subquery q.source q.join_word q.join q.sources q.direction q.key q.filter q.grouping q.having q.ordering q.limit q.offset
+  unfolding e.literal e.column_name e.named e.group e.atom e.unary e.term_sign e.term_link e.term e.sum_sign e.sum_link e.sum e.compare_sign e.comparison e.null_test e.like e.one_of e.between e.constant e.range_test e.test e.pred e.neg e.and_operand e.conj e.or_operand e.expr q.alias q.condition q.subquery q.subquery_source q.source q.join_word q.join q.sources q.direction q.key_column q.key q.filter q.grouping q.having q.ordering q.limit q.offset
   offset_tame = plain n (q.offset) refl
 
   select_tame : IsTame n q.select

@@ -23,6 +23,6 @@ nested zero s = λ value w. ⊥
 nested (suc depth) s = derives (nested depth) (body s)
 
 -- how it is read
-abbrev pub readers : ℕ → Readers
+unfoldable pub readers : ℕ → Readers
 readers zero s = None
 readers (suc depth) s = Some (read (readers depth) (body s))

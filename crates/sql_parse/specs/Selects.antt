@@ -40,9 +40,13 @@ condition = marked (λ x test. record { place = x.start; test = test }) expr
 unfoldable pub subquery : Form (Span → Source)
 subquery = nest (sign_class s.LeftParenthesis) a_select (λ x query alias. o.Query x.start query alias) <* sign s.RightParenthesis
 
+-- "(" select ")" [ AS ] name
+unfoldable pub subquery_source : Form Source
+subquery_source = subquery <*> has (word w.As) >> name
+
 -- source = name [ [ AS ] name ] | "(" select ")" [ AS ] name
 unfoldable pub source : Form Source
-source = (subquery <*> has (word w.As) >> name) or ((λ name alias. o.Table name alias) <$> name <*> alias)
+source = subquery_source or ((λ name alias. o.Table name alias) <$> name <*> alias)
 
 -- [ INNER ] JOIN | LEFT [ OUTER ] JOIN: whether it is outer
 unfoldable pub join_word : Form Bool
@@ -65,9 +69,13 @@ sources = sources_of <$> source <*> many join
 unfoldable pub direction : Form Bool
 direction = ((λ _. true) <$> word w.Desc) or ((λ _. false) <$> word w.Asc) or empty false
 
+-- int | name | name "." name
+unfoldable pub key_column : Form KeyColumn
+key_column = (k.Position <$> integer) or (k.Name <$> column_name)
+
 -- key = ( int | name | name "." name ) [ ASC | DESC ]
 unfoldable pub key : Form Key
-key = (λ column descending. record { column = column; descending = descending }) <$> ((k.Position <$> integer) or (k.Name <$> column_name)) <*> direction
+key = (λ column descending. record { column = column; descending = descending }) <$> key_column <*> direction
 
 -- [ WHERE expr ]
 unfoldable pub filter : Form (Option Condition)

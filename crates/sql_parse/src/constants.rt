@@ -15,16 +15,16 @@ use sqlite_items::Items;
 use std::alloc::Global;
 
 /// `const { "," const }`
-pub(crate) fn constants(alloc: Global, cursor: &mut Cursor<'_>) -> Result<Items<Constant>, Fault>
-    ensures gives { Gives (read (readers 0) (list form.constant) cursor.old) result cursor.new }
+pub(crate) fn constants(alloc: Global, cursor: &mut Cursor<'_>, depth: u8) -> Result<Items<Constant>, Fault>
+    ensures gives { Gives (read (readers depth) (list form.constant) cursor.old) result cursor.new }
     ensures shrinks { length cursor.new ≤ length cursor.old }
 {
-    let first = constant(cursor)?;
+    let first = constant(cursor, depth)?;
     let mut found = Items::new(alloc);
     found.push(first)?;
     'turns: while cursor.at_sign(Sign::Comma) {
         cursor.shift();
-        let next = constant(cursor)?;
+        let next = constant(cursor, depth)?;
         found.push(next)?;
     }
     Ok(found)

@@ -1,7 +1,6 @@
-//! Parts of expressions that don't nest: literals, constants, names of columns, and signs.
-ghost use Rattle.std.specs.Prelude.{◌≡◌, ◌≤◌, ◌<◌, length, IsOk};
-ghost use Rattle.sql_parse.specs.Lexeme.{first};
-ghost use Rattle.sql_parse.specs.Reading.{read, begins};
+//! Parts of expressions in which nothing nests: literals, constants, names of columns, and signs.
+ghost use Rattle.std.specs.Prelude.{◌≤◌, ◌<◌, length, IsOk};
+ghost use Rattle.sql_parse.specs.Reading.{read};
 ghost use Rattle.sql_parse.specs.Nesting.{readers};
 ghost use Rattle.sql_parse.specs.Whole.{Gives};
 ghost use Rattle.sql_parse.specs.Expressions as form;
@@ -12,8 +11,8 @@ use crate::tree::{ChainSign, ColumnName, CompareSign, Constant, Literal};
 use sql_lex::{Sign, Word};
 
 #[tactic(auto, unfolding(crate::specs::Expressions::literal))]
-pub(crate) fn literal(cursor: &mut Cursor<'_>) -> Result<Literal, Fault>
-    ensures gives { Gives (read (readers 0) form.literal cursor.old) result cursor.new }
+pub(crate) fn literal(cursor: &mut Cursor<'_>, depth: u8) -> Result<Literal, Fault>
+    ensures gives { Gives (read (readers depth) form.literal cursor.old) result cursor.new }
     ensures shrinks { length cursor.new ≤ length cursor.old }
 {
     if cursor.sees(INTEGER) {
@@ -32,18 +31,18 @@ pub(crate) fn literal(cursor: &mut Cursor<'_>) -> Result<Literal, Fault>
 }
 
 #[tactic(auto, unfolding(crate::specs::Expressions::constant))]
-pub(crate) fn constant(cursor: &mut Cursor<'_>) -> Result<Constant, Fault>
-    ensures gives { Gives (read (readers 0) form.constant cursor.old) result cursor.new }
+pub(crate) fn constant(cursor: &mut Cursor<'_>, depth: u8) -> Result<Constant, Fault>
+    ensures gives { Gives (read (readers depth) form.constant cursor.old) result cursor.new }
     ensures shrinks { length cursor.new ≤ length cursor.old }
 {
     let negative = cursor.skip_sign(Sign::Minus);
-    let literal = literal(cursor)?;
+    let literal = literal(cursor, depth)?;
     Ok(Constant { negative, literal })
 }
 
 #[tactic(auto, unfolding(crate::specs::Expressions::column_name))]
-pub(crate) fn column_name(cursor: &mut Cursor<'_>) -> Result<ColumnName, Fault>
-    ensures gives { Gives (read (readers 0) form.column_name cursor.old) result cursor.new }
+pub(crate) fn column_name(cursor: &mut Cursor<'_>, depth: u8) -> Result<ColumnName, Fault>
+    ensures gives { Gives (read (readers depth) form.column_name cursor.old) result cursor.new }
     ensures shrinks { length cursor.new ≤ length cursor.old }
 {
     let first = cursor.name()?;
@@ -61,17 +60,9 @@ pub(crate) fn column_name(cursor: &mut Cursor<'_>) -> Result<ColumnName, Fault>
     })
 }
 
-/// Whether a link of a term comes next.
-#[tactic(auto, unfolding(crate::specs::Expressions::term_sign, crate::specs::Expressions::term_link))]
-pub(crate) fn at_term_sign(cursor: &Cursor<'_>) -> bool
-    ensures { result ≡ begins form.term_link (first cursor.now) }
-{
-    cursor.at_sign(Sign::Star) || cursor.at_sign(Sign::Quotient) || cursor.at_sign(Sign::Remainder)
-}
-
 #[tactic(auto, unfolding(crate::specs::Expressions::term_sign))]
-pub(crate) fn term_sign(cursor: &mut Cursor<'_>) -> Result<(ChainSign, usize), Fault>
-    ensures gives { Gives (read (readers 0) form.term_sign cursor.old) result cursor.new }
+pub(crate) fn term_sign(cursor: &mut Cursor<'_>, depth: u8) -> Result<(ChainSign, usize), Fault>
+    ensures gives { Gives (read (readers depth) form.term_sign cursor.old) result cursor.new }
     ensures shrinks { length cursor.new ≤ length cursor.old }
     ensures falls { IsOk result → length cursor.new < length cursor.old }
 {
@@ -86,17 +77,9 @@ pub(crate) fn term_sign(cursor: &mut Cursor<'_>) -> Result<(ChainSign, usize), F
     }
 }
 
-/// Whether a link of a sum comes next.
-#[tactic(auto, unfolding(crate::specs::Expressions::sum_sign, crate::specs::Expressions::sum_link))]
-pub(crate) fn at_sum_sign(cursor: &Cursor<'_>) -> bool
-    ensures { result ≡ begins form.sum_link (first cursor.now) }
-{
-    cursor.at_sign(Sign::Plus) || cursor.at_sign(Sign::Minus)
-}
-
 #[tactic(auto, unfolding(crate::specs::Expressions::sum_sign))]
-pub(crate) fn sum_sign(cursor: &mut Cursor<'_>) -> Result<(ChainSign, usize), Fault>
-    ensures gives { Gives (read (readers 0) form.sum_sign cursor.old) result cursor.new }
+pub(crate) fn sum_sign(cursor: &mut Cursor<'_>, depth: u8) -> Result<(ChainSign, usize), Fault>
+    ensures gives { Gives (read (readers depth) form.sum_sign cursor.old) result cursor.new }
     ensures shrinks { length cursor.new ≤ length cursor.old }
     ensures falls { IsOk result → length cursor.new < length cursor.old }
 {
@@ -109,22 +92,9 @@ pub(crate) fn sum_sign(cursor: &mut Cursor<'_>) -> Result<(ChainSign, usize), Fa
     }
 }
 
-/// Whether a comparison comes next.
 #[tactic(auto, unfolding(crate::specs::Expressions::compare_sign))]
-pub(crate) fn at_compare_sign(cursor: &Cursor<'_>) -> bool
-    ensures { result ≡ begins form.compare_sign (first cursor.now) }
-{
-    cursor.at_sign(Sign::Equal)
-        || cursor.at_sign(Sign::Unequal)
-        || cursor.at_sign(Sign::Less)
-        || cursor.at_sign(Sign::AtMost)
-        || cursor.at_sign(Sign::Greater)
-        || cursor.at_sign(Sign::AtLeast)
-}
-
-#[tactic(auto, unfolding(crate::specs::Expressions::compare_sign))]
-pub(crate) fn compare_sign(cursor: &mut Cursor<'_>) -> Result<(CompareSign, usize), Fault>
-    ensures gives { Gives (read (readers 0) form.compare_sign cursor.old) result cursor.new }
+pub(crate) fn compare_sign(cursor: &mut Cursor<'_>, depth: u8) -> Result<(CompareSign, usize), Fault>
+    ensures gives { Gives (read (readers depth) form.compare_sign cursor.old) result cursor.new }
     ensures shrinks { length cursor.new ≤ length cursor.old }
 {
     if cursor.at_sign(Sign::Equal) {
@@ -142,20 +112,4 @@ pub(crate) fn compare_sign(cursor: &mut Cursor<'_>) -> Result<(CompareSign, usiz
     } else {
         Err(Fault::Syntax)
     }
-}
-
-/// Whether an operand under AND comes next.
-#[tactic(auto, unfolding(crate::specs::Expressions::and_operand))]
-pub(crate) fn at_and(cursor: &Cursor<'_>) -> bool
-    ensures { result ≡ begins form.and_operand (first cursor.now) }
-{
-    cursor.at_word(Word::And)
-}
-
-/// Whether an operand under OR comes next.
-#[tactic(auto, unfolding(crate::specs::Expressions::or_operand))]
-pub(crate) fn at_or(cursor: &Cursor<'_>) -> bool
-    ensures { result ≡ begins form.or_operand (first cursor.now) }
-{
-    cursor.at_word(Word::Or)
 }

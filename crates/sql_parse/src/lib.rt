@@ -3,7 +3,9 @@
 
 mod constants;
 mod cursor;
-mod expr;
 mod fault;
 mod leaves;
+mod looks;
+mod nodes;
+mod predicates;
 pub mod tree;

@@ -137,7 +137,7 @@ pub enum Argument {
 pub struct Link {
     pub place: usize,
     pub sign: ChainSign,
-    pub right: Expr,
+    pub right: Boxed<Expr>,
 }
 
 /// An operand after AND or OR; `place` is the word's.
@@ -145,5 +145,5 @@ pub struct Link {
 #[derive(Drop)]
 pub struct Operand {
     pub place: usize,
-    pub right: Expr,
+    pub right: Boxed<Expr>,
 }

@@ -12,7 +12,7 @@ pub struct Select {
     pub items: Items<Item>,
     pub sources: Sources,
     pub filter: Option<Condition>,
-    pub group: Items<Expr>,
+    pub group: Items<Boxed<Expr>>,
     pub having: Option<Condition>,
     pub order: Items<Key>,
     pub limit: Option<Span>,
@@ -26,14 +26,14 @@ pub enum Item {
     Star(usize),
     /// All columns of the source of that name.
     SourceStar(Span),
-    Value { value: Expr, alias: Option<Span> },
+    Value { value: Boxed<Expr>, alias: Option<Span> },
 }
 
 /// A condition; `place` is that of its first token.
 #[derive(Drop)]
 pub struct Condition {
     pub place: usize,
-    pub test: Expr,
+    pub test: Boxed<Expr>,
 }
 
 /// The sources of a select: one alone, or one and those joined to it, at least one.

@@ -12,7 +12,7 @@ use Rattle.sql_parse.proofs.constants.constants.Goals as goal
 pub turns-init : goal.turns-init
 turns-init c = record {
   shrinks = c.constant.ensures.shrinks;
-  so_far = list_started (readers 0) form.constant c.args.cursor.now c.in_ok-first.first c.constant.new.cursor c.push.new.self c.in_ok-first.ensures.gives
+  so_far = list_started (readers c.args.depth) form.constant c.args.cursor.now c.in_ok-first.first c.constant.new.cursor c.push.new.self c.in_ok-first.ensures.gives
       (c.in_ok-push.ensures.ok ∙ ap (λ z. z ++ c.in_ok-first.first ∷ []) c.new-found.ensures);
 }
 
@@ -22,16 +22,16 @@ turns-preserved c =
     let fell : length c.shift.new.self < length c.turns.cursor = c.shift.ensures.falls (seen_some (sign_class s.Comma ∷ []) (first c.turns.cursor) h) in
     record {
       shrinks = omega arith;
-      so_far = list_stepped (readers 0) form.constant c.args.cursor.now c.turns.found c.push-in-turns.new.self c.turns.cursor c.constant-in-turns.new.cursor c.in_ok-next.next c.turns.invariant.so_far h
-          (ap (read (readers 0) form.constant) (sym c.shift.ensures.tail) ∙ c.in_ok-next.ensures.gives) (omega arith) c.in_ok-push-2.ensures.ok;
+      so_far = list_stepped (readers c.args.depth) form.constant c.args.cursor.now c.turns.found c.push-in-turns.new.self c.turns.cursor c.constant-in-turns.new.cursor c.in_ok-next.next c.turns.invariant.so_far h
+          (ap (read (readers c.args.depth) form.constant) (sym c.shift.ensures.tail) ∙ c.in_ok-next.ensures.gives) (omega arith) c.in_ok-push-2.ensures.ok;
     }
 
 pub returns-in_err-next-clause-gives : goal.returns-in_err-next-clause-gives
 returns-in_err-next-clause-gives c =
     let h : sees (sign_class s.Comma ∷ []) (first c.turns.cursor) ≡ true = sym c.at_sign.ensures ∙ c.turns-test.true in
-    let f = λ (f : _) (p : read (readers 0) form.constant (tail c.turns.cursor) ≡ Err (f, c.constant-in-turns.new.cursor)).
-    list_failed (readers 0) form.constant c.args.cursor.now c.turns.found c.turns.cursor (f, c.constant-in-turns.new.cursor) c.turns.invariant.so_far h p in
+    let f = λ (f : _) (p : read (readers c.args.depth) form.constant (tail c.turns.cursor) ≡ Err (f, c.constant-in-turns.new.cursor)).
+    list_failed (readers c.args.depth) form.constant c.args.cursor.now c.turns.found c.turns.cursor (f, c.constant-in-turns.new.cursor) c.turns.invariant.so_far h p in
     first_of (search rules, grind (arith, common_steps))
 
 pub returns-clause-gives : goal.returns-clause-gives
-returns-clause-gives c = list_ended (readers 0) form.constant c.args.cursor.now c.turns.found c.turns.cursor c.turns.invariant.so_far (sym c.at_sign.ensures ∙ c.turns-test.false)
+returns-clause-gives c = list_ended (readers c.args.depth) form.constant c.args.cursor.now c.turns.found c.turns.cursor c.turns.invariant.so_far (sym c.at_sign.ensures ∙ c.turns-test.false)

@@ -7,7 +7,7 @@ use Rattle.sql_parse.proofs.constants.constants.Given as goal
 abbrev pub invariant-turns : goal.invariant-turns
 invariant-turns l = record {
   shrinks : length l.cursor ≤ length l.fn.cursor;
-  so_far : ListSoFar (readers 0) form.constant l.fn.cursor l.found l.cursor;
+  so_far : ListSoFar (readers l.depth) form.constant l.fn.cursor l.found l.cursor;
 }
 
 abbrev pub decreases-turns : goal.decreases-turns
