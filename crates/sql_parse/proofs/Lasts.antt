@@ -58,9 +58,9 @@ body_sound an_argument = refl
 body_sound a_select = refl
 
 pub script_sound : is_sound last t.script ≡ true
-unfolding e.literal e.column_name e.named e.group e.atom e.unary e.term_sign e.term_link e.term e.sum_sign e.sum_link e.sum e.compare_sign e.comparison e.null_test e.like e.one_of e.between e.constant e.range_test e.test e.pred e.neg e.and_operand e.conj e.or_operand e.expr e.argument q.alias q.value_item q.item q.condition q.subquery q.subquery_source q.source q.join_word q.join q.sources q.direction q.key_column q.key q.filter q.grouping q.having q.ordering q.limit q.offset q.select t.sizes t.type_name t.column t.option t.options t.create t.drop t.copy t.statement t.script
+unfolding e.literal e.column_name e.named e.group e.atom e.unary e.term_sign e.term_link e.term e.sum_sign e.sum_link e.sum e.compare_sign e.comparison e.null_test e.like e.one_of e.between e.constant e.range_test e.test e.pred e.neg e.and_operand e.conj e.or_operand e.expr e.argument q.alias q.value_item q.item q.condition q.subquery q.subquery_source q.source q.join_word q.join q.sources q.direction q.key_column q.key q.filter q.grouping q.having q.ordering q.limit q.offset q.select t.sizes t.type_name t.not_null t.column t.truth t.option t.options t.create t.drop t.copy t.statement t.script
 script_sound = refl
 
 pub script_alive : alive t.script ≡ true
-unfolding e.literal e.column_name e.named e.group e.atom e.unary e.term_sign e.term_link e.term e.sum_sign e.sum_link e.sum e.compare_sign e.comparison e.null_test e.like e.one_of e.between e.constant e.range_test e.test e.pred e.neg e.and_operand e.conj e.or_operand e.expr e.argument q.alias q.value_item q.item q.condition q.subquery q.subquery_source q.source q.join_word q.join q.sources q.direction q.key_column q.key q.filter q.grouping q.having q.ordering q.limit q.offset q.select t.sizes t.type_name t.column t.option t.options t.create t.drop t.copy t.statement t.script
+unfolding e.literal e.column_name e.named e.group e.atom e.unary e.term_sign e.term_link e.term e.sum_sign e.sum_link e.sum e.compare_sign e.comparison e.null_test e.like e.one_of e.between e.constant e.range_test e.test e.pred e.neg e.and_operand e.conj e.or_operand e.expr e.argument q.alias q.value_item q.item q.condition q.subquery q.subquery_source q.source q.join_word q.join q.sources q.direction q.key_column q.key q.filter q.grouping q.having q.ordering q.limit q.offset q.select t.sizes t.type_name t.not_null t.column t.truth t.option t.options t.create t.drop t.copy t.statement t.script
 script_alive = refl

@@ -11,3 +11,5 @@ mod Exact
 mod Turning
 mod Deeper
 mod Lists
+mod Scripts
+mod Unique

@@ -14,26 +14,29 @@ append_nil : {A : Type 0} (u : List A) → u ++ [] ≡ u
 append_nil [] = refl
 append_nil (x ∷ u) = ap (λ v. x ∷ v) (append_nil u)
 
--- ---- a chain: an operand and its links
+-- ---- as many as come
 
-module _ {A B C : Type 0} (n : Readers) (build : B → List A → C) (q : Form B) (p : Form A) (w : List Lexeme) where
-  abbrev pub ChainSoFar : B → List A → List Lexeme → Type 0
-  ChainSoFar b found r = SoFar (begins p) (read n p) (read n (build <$> q <*> many p) w) (λ more. build b (found ++ more)) r
+module _ {A : Type 0} (n : Readers) (p : Form A) (w : List Lexeme) where
+  abbrev pub ManySoFar : List A → List Lexeme → Type 0
+  ManySoFar found r = SoFar (begins p) (read n p) (read n (many p) w) (λ more. found ++ more) r
 
-  pub chain_started : (b : B) (r : List Lexeme) (found : List A) → read n q w ≡ Ok (b, r) → found ≡ [] → ChainSoFar b found r
-  chain_started b r found e f = subst (λ z. ChainSoFar b z r) (sym f)
-      (started (begins p) (read n p) (read n (build <$> q <*> many p) w) (build b) r
-      (ap (λ o. and_then (and_then o (λ a s. Ok (build a, s))) (λ f r. and_then (many_from (begins p) (read n p) (length r) r) (λ b s. Ok (f b, s)))) e))
+  all_of : (o : Outcome (List A)) → o ≡ and_then o (λ list r. Ok (list, r))
+  all_of (Ok q) = refl
+  all_of (Err q) = refl
 
-  pub chain_stepped : (no_end : begins p None ≡ false) (b : B) (found next : List A) (u r : List Lexeme) (a : A) → ChainSoFar b found u → begins p (first u) ≡ true → read n p u ≡ Ok (a, r) → length r < length u → next ≡ found ++ a ∷ [] → ChainSoFar b next r
-  chain_stepped no_end b found next u r a s h e l f = stepped (begins p) (read n p) no_end (read n (build <$> q <*> many p) w) (λ more. build b (found ++ more)) (λ more. build b (next ++ more)) a u r s h e l
-      (λ more. ap (build b) (sym (append_assoc found (a ∷ []) more) ∙ ap (λ z. z ++ more) (sym f)))
+  pub many_started : (r : List Lexeme) (found : List A) → r ≡ w → found ≡ [] → ManySoFar found r
+  many_started r found e f = subst (λ z. ManySoFar z r) (sym f) (subst (λ v. SoFar (begins p) (read n p) (read n (many p) w) (λ more. more) v) (sym e)
+      (started (begins p) (read n p) (read n (many p) w) (λ more. more) w (all_of (many_from (begins p) (read n p) (length w) w))))
 
-  pub chain_failed : (no_end : begins p None ≡ false) (b : B) (found : List A) (u : List Lexeme) (why : Fault × List Lexeme) → ChainSoFar b found u → begins p (first u) ≡ true → read n p u ≡ Err why → read n (build <$> q <*> many p) w ≡ Err why
-  chain_failed no_end b found u why s h e = failed (begins p) (read n p) no_end (read n (build <$> q <*> many p) w) (λ more. build b (found ++ more)) u why s h e
+  pub many_stepped : (no_end : begins p None ≡ false) (found next : List A) (u r : List Lexeme) (a : A) → ManySoFar found u → begins p (first u) ≡ true → read n p u ≡ Ok (a, r) → length r < length u → next ≡ found ++ a ∷ [] → ManySoFar next r
+  many_stepped no_end found next u r a s h e l f = stepped (begins p) (read n p) no_end (read n (many p) w) (λ more. found ++ more) (λ more. next ++ more) a u r s h e l
+      (λ more. sym (append_assoc found (a ∷ []) more) ∙ ap (λ z. z ++ more) (sym f))
 
-  pub chain_ended : (no_end : begins p None ≡ false) (b : B) (found : List A) (u : List Lexeme) → ChainSoFar b found u → begins p (first u) ≡ false → read n (build <$> q <*> many p) w ≡ Ok (build b found, u)
-  chain_ended no_end b found u s h = ended (begins p) (read n p) no_end (read n (build <$> q <*> many p) w) (λ more. build b (found ++ more)) u s h ∙ ap (λ z. Ok (build b z, u)) (append_nil found)
+  pub many_failed : (no_end : begins p None ≡ false) (found : List A) (u : List Lexeme) (why : Fault × List Lexeme) → ManySoFar found u → begins p (first u) ≡ true → read n p u ≡ Err why → read n (many p) w ≡ Err why
+  many_failed no_end found u why s h e = failed (begins p) (read n p) no_end (read n (many p) w) (λ more. found ++ more) u why s h e
+
+  pub many_ended : (no_end : begins p None ≡ false) (found : List A) (u : List Lexeme) → ManySoFar found u → begins p (first u) ≡ false → read n (many p) w ≡ Ok (found, u)
+  many_ended no_end found u s h = ended (begins p) (read n p) no_end (read n (many p) w) (λ more. found ++ more) u s h ∙ ap (λ z. Ok (z, u)) (append_nil found)
 
 -- ---- a list with commas
 

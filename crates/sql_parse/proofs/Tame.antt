@@ -141,7 +141,7 @@ module _ (n : Readers) where
   body_tame a_select = select_tame
 
   others_tame : IsTame n t.create × IsTame n t.drop × IsTame n t.copy
-  unfolding t.sizes t.type_name t.column t.option t.options t.create t.drop t.copy
+  unfolding t.sizes t.type_name t.not_null t.column t.truth t.option t.options t.create t.drop t.copy
   others_tame = (plain n t.create refl, plain n t.drop refl, plain n t.copy refl)
 
   statement_tame : IsTame n t.statement

@@ -23,13 +23,21 @@ sizes = parenthesized ((λ first second. record { first = first; second = second
 unfoldable pub type_name : Form TypeName
 type_name = (λ name sizes. record { name = name; sizes = sizes }) <$> name <*> optional sizes
 
+-- [ NOT NULL ]
+unfoldable pub not_null : Form Bool
+not_null = has (word w.Not >> word w.Null)
+
 -- column = name type [ NOT NULL ]
 unfoldable pub column : Form Column
-column = (λ name kind not_null. record { name = name; kind = kind; not_null = not_null }) <$> name <*> type_name <*> has (word w.Not >> word w.Null)
+column = (λ name kind not_null. record { name = name; kind = kind; not_null = not_null }) <$> name <*> type_name <*> not_null
+
+-- TRUE | FALSE
+unfoldable pub truth : Form Bool
+truth = ((λ _. true) <$> word w.True) or ((λ _. false) <$> word w.False)
 
 -- option = HEADER ( TRUE | FALSE ) | DELIMITER text | NULL text
 unfoldable pub option : Form CopyOption
-option = ((λ place value. o.Header place value) <$> token header_class (λ x. x.start) <*> (((λ _. true) <$> word w.True) or ((λ _. false) <$> word w.False)))
+option = ((λ place value. o.Header place value) <$> token header_class (λ x. x.start) <*> truth)
     or ((λ place text. o.Delimiter place text) <$> token delimiter_class (λ x. x.start) <*> text)
     or ((λ place text. o.Null place text) <$> word w.Null <*> text)
 

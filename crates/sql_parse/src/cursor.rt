@@ -6,7 +6,8 @@ ghost use Rattle.sql_parse.specs.Lexemes.{lexemes, lexeme, name_class, is_spelle
 ghost use Rattle.sql_parse.specs.Classes.{word_class, sign_class, names};
 ghost use Rattle.sql_parse.specs.Combinators.{span_of};
 ghost use Rattle.sql_parse.specs.Combinators as form;
-ghost use Rattle.sql_parse.specs.Reading.{read};
+ghost use Rattle.sql_parse.specs.Reading.{read, sees_phrase};
+ghost use Rattle.sql_parse.specs.Verdict.{place_of};
 ghost use Rattle.sql_parse.specs.Nesting.{readers};
 ghost use Rattle.sql_parse.specs.Whole.{Gives};
 
@@ -319,5 +320,40 @@ impl<'a> Cursor<'a> {
             self.shift();
         }
         found
+    }
+
+    /// The cursor behind the next token.
+    fn behind(&self) -> Cursor<'a>
+        ensures { result ≡ tail self.now }
+    {
+        let tokens = match self.tokens {
+            [_, rest @ ..] => rest,
+            [] => self.tokens,
+        };
+        Cursor {
+            script: self.script,
+            tokens,
+        }
+    }
+
+    /// Whether a name, a point and a star come next.
+    pub(crate) fn at_source_star(&self) -> bool
+        ensures { result ≡ sees_phrase names (sign_class Sign.Dot) (sign_class Sign.Star) self.now }
+    {
+        if !self.at_name() {
+            return false;
+        }
+        let second = self.behind();
+        second.at_sign(Sign::Dot) && second.behind().at_sign(Sign::Star)
+    }
+
+    /// Where the next token stands, or the end of a script of that length.
+    pub(crate) fn place(&self, end: usize) -> usize
+        ensures { result ≡ place_of end self.now }
+    {
+        match self.tokens.first() {
+            Some(token) => token.start,
+            None => end,
+        }
     }
 }

@@ -2,7 +2,7 @@
 
 use crate::tree::expr::Span;
 use crate::tree::select::Select;
-use sqlite_items::Items;
+use sqlite_items::{Boxed, Items};
 
 /// A script: its statements in order, without the empty ones.
 #[derive(Drop)]
@@ -16,8 +16,8 @@ pub enum Statement {
     CreateTable { name: Span, columns: Items<Column> },
     DropTable { name: Span },
     Copy { name: Span, file: Span, options: Items<CopyOption> },
-    Explain(Select),
-    Select(Select),
+    Explain(Boxed<Select>),
+    Select(Boxed<Select>),
 }
 
 /// A column of a new table.
