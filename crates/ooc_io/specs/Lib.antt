@@ -1,0 +1,6 @@
+pub mod Counts
+pub mod Held
+pub mod Opens
+pub mod Lanes
+pub mod Calls
+pub mod MemFiles
