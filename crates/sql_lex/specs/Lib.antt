@@ -1,1 +1,11 @@
 pub mod Tokens
+pub mod Words
+pub mod Signs
+pub mod Gaps
+pub mod Names
+pub mod Quotes
+pub mod Numbers
+pub mod Fronts
+pub mod Lexed
+pub mod Cover
+pub mod Values

@@ -96,16 +96,23 @@ pub struct Tokens<'a> {
 }
 
 impl<'a> Model for Tokens<'a> {
+    ghost use Rattle.std.specs.Prelude.{length};
+    ghost use Rattle.sql_lex.specs.Cover.{AreWithin};
     ghost use Rattle.sql_lex.specs.Tokens.{ScriptTokens};
 
     ghost Value = { ScriptTokens };
 
     ghost view = { λ tokens. record { script = tokens.script.now; list = tokens.list.items } };
+
+    ghost invariant = { λ tokens. AreWithin (length tokens.script.now) tokens.list.items };
 }
 
 impl<'a> Tokens<'a> {
+    ghost use Rattle.sql_lex.specs.Cover.{AreWithin};
+
     /// The tokens of a script, given as a list.
     pub(crate) fn new(script: &'a [u8], list: Vec<Token>) -> Self
+        requires { AreWithin (length script.now) list.items }
         ensures script { result.script ≡ script.now }
         ensures list { result.list ≡ list.items }
     {
@@ -119,9 +126,10 @@ impl<'a> Tokens<'a> {
         self.script
     }
 
-    /// The tokens, in the order of the script.
+    /// The tokens, in the order of the script. None is empty, and each ends within the script.
     pub fn as_slice(&self) -> &[Token]
-        ensures { result.now ≡ self.now.list }
+        ensures list { result.now ≡ self.now.list }
+        ensures within { AreWithin (length self.now.script) self.now.list }
     {
         self.list.as_slice()
     }
