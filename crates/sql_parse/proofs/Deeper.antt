@@ -1,8 +1,8 @@
 -- What is read one level deeper.
-use Rattle.std.proofs.Common.{◌≡◌, ◌≢◌, ℕ, zero, suc, ◌-◌, List, Option, Some, None, Ok, Err, refl, ap, arith}
+use Rattle.std.proofs.Common.{◌≡◌, ◌≢◌, ℕ, zero, suc, ◌-◌, List, Err, refl, ap, arith}
 use Rattle.sql_parse.specs.Lexeme.{Lexeme, tail}
 use Rattle.sql_parse.specs.declared.fault.Fault.TheVariants.{TooDeep}
-use Rattle.sql_parse.specs.Form.{Sort, Value}
+use Rattle.sql_parse.specs.Form.{Sort}
 use Rattle.sql_parse.specs.Reading.{opened, read}
 use Rattle.sql_parse.specs.Nesting.{body, readers}
 

@@ -1,11 +1,11 @@
 -- From what the reading of whole scripts does to what the grammar says.
-use Rattle.std.proofs.Common.{◌≡◌, ℕ, zero, suc, ◌+◌, List, [], ◌∷◌, ◌++◌, Ok, Err, refl, sym, ◌∙◌, ap, subst, append_assoc, arith, inl, inr}
+use Rattle.std.proofs.Common.{◌≡◌, ℕ, zero, suc, ◌+◌, List, [], ◌∷◌, ◌++◌, Ok, Err, sym, ◌∙◌, ap, subst, append_assoc, arith, inl, inr}
 use Rattle.std.proofs.lemmas.List.{append_cancel_right}
 use Rattle.sql_parse.specs.Lexeme.{Lexeme, first}
 use Rattle.sql_parse.specs.declared.fault.Fault.{Fault}
 use Rattle.sql_parse.specs.declared.fault.Fault.TheVariants.{Syntax, TooDeep}
 use Rattle.sql_parse.specs.declared.tree.statement.Script.{Script}
-use Rattle.sql_parse.specs.Reading.{Outcome, Parser, and_then, read}
+use Rattle.sql_parse.specs.Reading.{Outcome, and_then, read}
 use Rattle.sql_parse.specs.Statements.{script}
 use Rattle.sql_parse.specs.Nesting.{readers}
 use Rattle.sql_parse.specs.Verdict.{IsScript, Begins, limit, place_of, SyntaxAt, TooDeepAt}

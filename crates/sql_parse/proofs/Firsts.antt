@@ -1,8 +1,8 @@
 -- With which tokens a rule's tokens begin.
-use Rattle.std.proofs.Common.{◌≡◌, ℕ, List, [], ◌∷◌, ◌++◌, Option, Some, None, Bool, true, false, refl, sym, ◌∙◌, ap, subst, if◌then◌else◌, ◌⊎◌, inl, inr}
-use Rattle.sql_parse.specs.Lexeme.{Lexeme, is_among, sees, first}
-use Rattle.sql_parse.specs.Form.{Sort, Value, Form, empty, one, both, either, many, nest, marked, phrase}
-use Rattle.sql_parse.specs.Derives.{Inner, One, Both, Many, none, more, Nest, Marked, Phrase, derives}
+use Rattle.std.proofs.Common.{◌≡◌, ℕ, List, [], ◌∷◌, ◌++◌, Option, Some, None, Bool, true, false, refl, sym, ◌∙◌, ap, if◌then◌else◌, ◌⊎◌, inl, inr}
+use Rattle.sql_parse.specs.Lexeme.{Lexeme, is_among, sees}
+use Rattle.sql_parse.specs.Form.{Form, empty, one, both, either, many, nest, marked, phrase}
+use Rattle.sql_parse.specs.Derives.{Inner, Many, none, more, derives}
 use Rattle.sql_parse.specs.Reading.{nullable, begins}
 use Rattle.sql_parse.specs.Sound.{firsts}
 use Rattle.sql_parse.proofs.Sets.{in_left, in_right, sees_append}

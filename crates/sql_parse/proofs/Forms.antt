@@ -1,11 +1,11 @@
 -- A sound rule is read as it derives: whatever the reading answers, and whatever it derives.
-use Rattle.std.proofs.Common.{◌≡◌, ◌==◌, ℕ, zero, suc, List, [], ◌∷◌, ◌++◌, length, Option, Some, None, Result, Ok, Err, Bool, true, false, refl, sym, ◌∙◌, ap, subst, if◌then◌else◌, ◌⊎◌, inl, inr, arith}
-use Rattle.sql_parse.specs.Lexeme.{Lexeme, is_among, sees, first, tail}
-use Rattle.sql_parse.specs.declared.fault.Fault.TheVariants.{Syntax, TooDeep}
+use Rattle.std.proofs.Common.{◌≡◌, ◌==◌, ℕ, List, [], ◌∷◌, ◌++◌, Option, Some, None, Ok, Err, Bool, true, false, refl, sym, ◌∙◌, ap, if◌then◌else◌, inl, inr, arith}
+use Rattle.sql_parse.specs.Lexeme.{Lexeme, is_among, sees, first}
+use Rattle.sql_parse.specs.declared.fault.Fault.TheVariants.{Syntax}
 use Rattle.sql_parse.specs.Form.{Sort, Value, Form, empty, one, both, either, many, nest, marked, phrase}
-use Rattle.sql_parse.specs.Derives.{Language, Inner, One, Both, Many, none, Nest, Marked, Phrase, derives}
-use Rattle.sql_parse.specs.Reading.{Outcome, Parser, and_then, nullable, begins, many_from, Readers, read}
-use Rattle.sql_parse.specs.Sound.{firsts, goes_on, alive, disjoint, within, ◌and◌, opposite, is_sound}
+use Rattle.sql_parse.specs.Derives.{Language, Inner, none, Nest, derives}
+use Rattle.sql_parse.specs.Reading.{Outcome, Parser, nullable, begins, Readers, read}
+use Rattle.sql_parse.specs.Sound.{firsts, goes_on, alive, disjoint, ◌and◌, opposite, is_sound}
 use Rattle.sql_parse.proofs.Sets.{left_of, right_of, is_false, apart, unseen_left, unseen_right}
 use Rattle.sql_parse.proofs.Firsts.{begins_is, Starts, StartsOr, starts}
 use Rattle.sql_parse.proofs.Laws.{Viable, Says, IsRight, entered, empty_says, one_right, one_complete, both_right, both_viable, both_complete, look_says, wider, nest_right, nest_complete, deep_right, marked_says, marked_complete, phrase_says, phrase_complete, other_complete}

@@ -1,10 +1,10 @@
 -- A reading that may nest one level more does the same, except where the first says that it is too deep: there it goes on.
-use Rattle.std.proofs.Common.{◌≡◌, ℕ, zero, suc, List, [], ◌∷◌, ◌++◌, length, Option, Some, None, Result, Ok, Err, Bool, true, false, refl, sym, ◌∙◌, ap, subst, append_assoc, if◌then◌else◌, ◌⊎◌, inl, inr}
+use Rattle.std.proofs.Common.{◌≡◌, ℕ, zero, suc, List, [], ◌∷◌, ◌++◌, length, Option, Some, None, Ok, Err, Bool, true, false, refl, sym, ◌∙◌, ap, subst, append_assoc, if◌then◌else◌}
 use Rattle.sql_parse.specs.Lexeme.{Lexeme, is_among, sees, first, tail, lexeme_at}
 use Rattle.sql_parse.specs.declared.fault.Fault.{Fault}
 use Rattle.sql_parse.specs.declared.fault.Fault.TheVariants.{Syntax, TooDeep, OutOfMemory}
-use Rattle.sql_parse.specs.Form.{Sort, Value, Form, empty, one, both, either, many, nest, marked, phrase}
-use Rattle.sql_parse.specs.Reading.{Outcome, Parser, and_then, nullable, begins, taken, many_from, sees_phrase, Readers, read}
+use Rattle.sql_parse.specs.Form.{Sort, Form, empty, one, both, either, many, nest, marked, phrase}
+use Rattle.sql_parse.specs.Reading.{Outcome, Parser, and_then, begins, taken, many_from, sees_phrase, Readers, read}
 use Rattle.sql_parse.proofs.Laws.{entered, inside}
 
 abbrev pub rest_of : {A : Type 0} → Outcome A → List Lexeme

@@ -2,7 +2,7 @@
 use Rattle.std.proofs.Common.{◌≡◌, ℕ, List, [], ◌∷◌, ◌++◌, true, refl}
 use Rattle.sql_lex.specs.declared.token.Word.TheVariants as w
 use Rattle.sql_lex.specs.declared.token.Sign.TheVariants as s
-use Rattle.sql_parse.specs.Form.{Sort, Value, an_expr, a_neg, a_unary, an_argument, a_select}
+use Rattle.sql_parse.specs.Form.{Sort, an_expr, a_neg, a_unary, an_argument, a_select}
 use Rattle.sql_parse.specs.Sound.{goes_on, alive, within, is_sound}
 use Rattle.sql_parse.specs.Classes.{word_class, sign_class, names}
 use Rattle.sql_parse.specs.Expressions as e

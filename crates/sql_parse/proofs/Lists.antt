@@ -7,7 +7,7 @@ use Rattle.sql_parse.specs.declared.fault.Fault.TheVariants.{Syntax}
 use Rattle.sql_parse.specs.Form.{Form, many}
 use Rattle.sql_parse.specs.Reading.{Outcome, and_then, begins, many_from, Readers, read}
 use Rattle.sql_parse.specs.Classes.{sign_class}
-use Rattle.sql_parse.specs.Combinators.{◌<$>◌, ◌<*>◌, ◌>>◌, sign, list}
+use Rattle.sql_parse.specs.Combinators.{◌>>◌, sign, list}
 use Rattle.sql_parse.proofs.Turning.{SoFar, started, stepped, failed, ended}
 
 append_nil : {A : Type 0} (u : List A) → u ++ [] ≡ u

@@ -1,10 +1,10 @@
 -- What holds of a rule holds of any number of it.
-use Rattle.std.proofs.Common.{◌≡◌, ℕ, zero, suc, ◌≤◌, List, [], ◌∷◌, ◌++◌, length, Option, Some, None, Result, Ok, Err, Bool, true, false, refl, sym, ◌∙◌, ap, subst, append_assoc, arith, length-append, if◌then◌else◌, inl, inr}
-use Rattle.sql_parse.specs.Lexeme.{Lexeme, first, is_among, sees}
+use Rattle.std.proofs.Common.{◌≡◌, ℕ, zero, suc, ◌≤◌, List, [], ◌∷◌, ◌++◌, length, Option, Some, None, Ok, Err, Bool, true, false, refl, sym, ◌∙◌, ap, subst, append_assoc, arith, length-append, if◌then◌else◌, inl, inr}
+use Rattle.sql_parse.specs.Lexeme.{Lexeme, first}
 use Rattle.sql_parse.specs.declared.fault.Fault.{Fault}
-use Rattle.sql_parse.specs.Derives.{Language, Many, none, more}
+use Rattle.sql_parse.specs.Derives.{Many, none, more}
 use Rattle.sql_parse.specs.Reading.{Outcome, Parser, and_then, many_from}
-use Rattle.sql_parse.proofs.Laws.{Viable, MayGoOn, Reads, Stops, Says, IsRight, append_nil, first_append}
+use Rattle.sql_parse.proofs.Laws.{Viable, MayGoOn, Reads, Says, IsRight, first_append}
 
 -- the tokens begin with one that begins the rule
 pub record Begins (starts : Option Lexeme → Bool) (u : List Lexeme) : Type 0 where

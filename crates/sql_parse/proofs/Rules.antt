@@ -1,19 +1,18 @@
 -- What the grammar derives, at each depth, is what is read there.
-use Rattle.std.proofs.Common.{◌≡◌, ℕ, zero, suc, List, [], ◌∷◌, ◌++◌, Option, Some, None, Result, Ok, Err, Bool, true, false, refl, sym, ◌∙◌, ap, subst, inl, inr}
-use Rattle.sql_parse.specs.Lexeme.{Lexeme, first, sees}
-use Rattle.sql_parse.specs.declared.fault.Fault.{Fault}
+use Rattle.std.proofs.Common.{◌≡◌, ℕ, zero, suc, List, [], ◌∷◌, Some, None, Ok, Err, refl, sym, ◌∙◌, ap, subst, inr}
+use Rattle.sql_parse.specs.Lexeme.{Lexeme, first}
 use Rattle.sql_parse.specs.declared.fault.Fault.TheVariants.{Syntax}
 use Rattle.sql_parse.specs.declared.tree.statement.Script.{Script}
-use Rattle.sql_parse.specs.Form.{Sort, Value, empty}
+use Rattle.sql_parse.specs.Form.{Sort}
 use Rattle.sql_parse.specs.Derives.{derives}
 use Rattle.sql_parse.specs.Reading.{Outcome, and_then, read}
-use Rattle.sql_parse.specs.Sound.{goes_on, alive}
+use Rattle.sql_parse.specs.Sound.{goes_on}
 use Rattle.sql_parse.specs.Statements.{script}
 use Rattle.sql_parse.specs.Nesting.{body, nested, readers}
 use Rattle.sql_parse.specs.Whole.{ended, whole}
 use Rattle.sql_parse.specs.Verdict.{IsScript}
 use Rattle.sql_parse.proofs.Sets.{unseen_in}
-use Rattle.sql_parse.proofs.Laws.{Viable, MayGoOn, Reads, Stops, Says, append_nil}
+use Rattle.sql_parse.proofs.Laws.{Viable, Reads, Says, append_nil}
 use Rattle.sql_parse.proofs.Forms.{SortRight, viable, right, complete}
 use Rattle.sql_parse.proofs.Lasts.{last, last_is, body_alive, body_sound, script_sound, script_alive}
 use Rattle.sql_parse.proofs.Tame.{body_tame, script_tame}

@@ -1,5 +1,5 @@
 -- The loop over statements.
-use Rattle.std.proofs.Common.{◌≡◌, ℕ, ◌<◌, List, [], ◌∷◌, ◌++◌, length, Option, None, Some, Ok, Err, Bool, true, false, refl, sym, ◌∙◌, ap, subst, append_assoc, if◌then◌else◌}
+use Rattle.std.proofs.Common.{◌≡◌, ◌<◌, List, [], ◌∷◌, ◌++◌, length, Option, None, Some, Ok, Err, Bool, true, false, refl, sym, ◌∙◌, ap, subst, append_assoc, if◌then◌else◌}
 use Rattle.sql_lex.specs.declared.token.Sign.TheVariants as g
 use Rattle.sql_parse.specs.Lexeme.{Lexeme, first, tail, sees, lexeme_at}
 use Rattle.sql_parse.specs.declared.fault.Fault.{Fault}
@@ -50,6 +50,12 @@ module _ (n : Readers) where
         (started (sees (sign_class g.Semicolon ∷ [])) after (read n script w) (λ more. record { statements = present (a ∷ []) ++ present more }) r
         (ap (λ o. and_then (and_then o pre) (λ f r. and_then (many_from (sees (sign_class g.Semicolon ∷ [])) after (length r) r) (λ b s. Ok (f b, s)))) e
         ∙ same_then (λ more. record { statements = present (a ∷ more) }) (λ more. record { statements = present (a ∷ []) ++ present more }) (many_from (sees (sign_class g.Semicolon ∷ [])) after (length r) r) (λ more. ap of_list (present_cons a more))))
+
+    pub script_not_started : (why : Fault × List Lexeme) → read n (optional statement) w ≡ Err why → read n script w ≡ Err why
+    unfolding script
+    script_not_started why e =
+        let pre : Option Statement → List Lexeme → Outcome (List (Option Statement) → Script) = λ a s. Ok ((λ more. record { statements = present (a ∷ more) }), s) in
+        ap (λ o. and_then (and_then o pre) (λ f r. and_then (many_from (sees (sign_class g.Semicolon ∷ [])) after (length r) r) (λ b s. Ok (f b, s)))) e
 
     pub script_stepped : (found next : List Statement) (u r : List Lexeme) (a : Option Statement) → ScriptSoFar found u → sees (sign_class g.Semicolon ∷ []) (first u) ≡ true → read n (optional statement) (tail u) ≡ Ok (a, r) → length r < length u → next ≡ found ++ present (a ∷ []) → ScriptSoFar next r
     unfolding of_list

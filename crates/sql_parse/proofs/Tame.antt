@@ -1,10 +1,10 @@
 -- Where an item may be `name "." "*"`, an expression stops at the `*`. No other rule has such a choice.
-use Rattle.std.proofs.Common.{◌≡◌, ◌==◌, ℕ, List, [], ◌∷◌, Option, Some, None, Ok, Err, Bool, true, false, refl, sym, ◌∙◌, ap, subst, arith, if◌then◌else◌}
+use Rattle.std.proofs.Common.{◌≡◌, ◌==◌, ℕ, List, [], ◌∷◌, Err, Bool, true, false, refl, sym, ap, subst, arith, if◌then◌else◌}
 use Rattle.sql_lex.specs.declared.token.Word.TheVariants as w
 use Rattle.sql_lex.specs.declared.token.Sign.TheVariants as s
 use Rattle.sql_parse.specs.Lexeme.{Lexeme, is_among}
 use Rattle.sql_parse.specs.declared.fault.Fault.TheVariants.{Syntax}
-use Rattle.sql_parse.specs.Form.{Sort, Value, Form, empty, one, both, either, many, nest, marked, phrase, an_expr, a_neg, a_unary, an_argument, a_select}
+use Rattle.sql_parse.specs.Form.{Sort, Form, empty, one, both, either, many, nest, marked, phrase, an_expr, a_neg, a_unary, an_argument, a_select}
 use Rattle.sql_parse.specs.Reading.{Readers, read}
 use Rattle.sql_parse.specs.Sound.{◌and◌}
 use Rattle.sql_parse.specs.Classes.{sign_class, names}

@@ -1,6 +1,6 @@
 -- A loop that reads a rule as often as it comes, beside the reading of all of it.
-use Rattle.std.proofs.Common.{◌≡◌, ℕ, zero, suc, ◌≤◌, ◌<◌, List, [], ◌∷◌, ◌++◌, length, Option, None, Some, Ok, Err, Bool, true, false, refl, sym, ◌∙◌, ap, arith, if◌then◌else◌}
-use Rattle.sql_parse.specs.Lexeme.{Lexeme, first, tail, sees}
+use Rattle.std.proofs.Common.{◌≡◌, ℕ, zero, suc, ◌≤◌, ◌<◌, List, [], ◌∷◌, length, Option, None, Ok, Err, Bool, true, false, refl, sym, ◌∙◌, ap, arith, if◌then◌else◌}
+use Rattle.sql_parse.specs.Lexeme.{Lexeme, first}
 use Rattle.sql_parse.specs.declared.fault.Fault.{Fault}
 use Rattle.sql_parse.specs.Reading.{Outcome, and_then, many_from}
 

@@ -3,7 +3,6 @@ use Rattle.std.proofs.Common.{◌≡◌, ℕ, ◌+◌, List, [], ◌∷◌, ◌+
 use Rattle.sql_parse.specs.Lexeme.{Lexeme}
 use Rattle.sql_parse.specs.declared.tree.statement.Script.{Script}
 use Rattle.sql_parse.specs.Verdict.{IsScript, Begins, limit, place_of, SyntaxAt, TooDeepAt}
-use Rattle.sql_parse.proofs.Laws.{append_nil}
 
 -- the second front is the first, one token more, and others
 record Longer (u r u2 : List Lexeme) : Type 0 where

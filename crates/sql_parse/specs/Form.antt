@@ -1,5 +1,5 @@
 -- What a rule of the grammar is made of.
-use Rattle.std.specs.Prelude.{ℕ, List, Option, Some, None}
+use Rattle.std.specs.Prelude.{ℕ, List}
 use Rattle.sql_parse.specs.Lexeme.{Lexeme}
 use Rattle.sql_parse.specs.declared.tree.expr.Expr.{Expr}
 use Rattle.sql_parse.specs.declared.tree.expr.Argument.{Argument}

@@ -1,5 +1,5 @@
 -- Tokens as the grammar sees them: a class, and a span.
-use Rattle.std.specs.Prelude.{◌≡◌, ◌==◌, ℕ, List, [], ◌∷◌, Option, Some, None, Bool, true, false, if◌then◌else◌}
+use Rattle.std.specs.Prelude.{◌==◌, ℕ, List, [], ◌∷◌, Option, Some, None, Bool, true, false, if◌then◌else◌}
 
 -- a token of a class, which stands in the script from `start` to before `end`
 pub record Lexeme : Type 0 where

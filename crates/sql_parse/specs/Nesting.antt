@@ -1,8 +1,5 @@
 -- How deep rules nest.
-use Rattle.std.specs.Prelude.{ℕ, zero, suc, List, [], ◌∷◌, ◌++◌, Option, Some, None}
-use Rattle.sql_lex.specs.declared.token.Word.TheVariants as w
-use Rattle.sql_lex.specs.declared.token.Sign.TheVariants as s
-use Rattle.sql_parse.specs.Lexeme.{Lexeme}
+use Rattle.std.specs.Prelude.{ℕ, zero, suc, Some, None}
 use Rattle.sql_parse.specs.Form.{Sort, Value, Form, an_expr, a_neg, a_unary, an_argument, a_select}
 use Rattle.sql_parse.specs.Derives.{Inner, derives}
 use Rattle.sql_parse.specs.Reading.{Readers, read}

@@ -1,5 +1,5 @@
 -- The grammar of selects.
-use Rattle.std.specs.Prelude.{ℕ, List, [], ◌∷◌, Option, Some, None, Bool, true, false}
+use Rattle.std.specs.Prelude.{List, [], ◌∷◌, Option, Bool, true, false}
 use Rattle.sql_lex.specs.declared.token.Word.TheVariants as w
 use Rattle.sql_lex.specs.declared.token.Sign.TheVariants as s
 use Rattle.sql_parse.specs.declared.tree.expr.Span.{Span}
@@ -17,7 +17,7 @@ use Rattle.sql_parse.specs.declared.tree.select.KeyColumn.{KeyColumn}
 use Rattle.sql_parse.specs.declared.tree.select.KeyColumn.TheVariants as k
 use Rattle.sql_parse.specs.declared.tree.select.Select.{Select}
 use Rattle.sql_parse.specs.Form.{Form, empty, many, nest, marked, phrase, a_select}
-use Rattle.sql_parse.specs.Classes.{word_class, sign_class, names}
+use Rattle.sql_parse.specs.Classes.{sign_class, names}
 use Rattle.sql_parse.specs.Combinators.{span_of, ◌<$>◌, ◌<*>◌, ◌<*◌, ◌>>◌, ◌or◌, token, word, sign, name, integer, optional, has, list}
 use Rattle.sql_parse.specs.Expressions.{expr, column_name}
 

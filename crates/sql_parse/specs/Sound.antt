@@ -1,7 +1,7 @@
 -- Which rules one token of look ahead is enough for.
 use Rattle.std.specs.Prelude.{ℕ, List, [], ◌∷◌, ◌++◌, Bool, true, false, if◌then◌else◌}
 use Rattle.sql_parse.specs.Lexeme.{is_among}
-use Rattle.sql_parse.specs.Form.{Sort, Value, Form, empty, one, both, either, many, nest, marked, phrase}
+use Rattle.sql_parse.specs.Form.{Sort, Form, empty, one, both, either, many, nest, marked, phrase}
 use Rattle.sql_parse.specs.Reading.{nullable}
 
 infixr 5 ◌and◌

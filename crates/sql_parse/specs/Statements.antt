@@ -1,5 +1,5 @@
 -- The grammar of statements and scripts.
-use Rattle.std.specs.Prelude.{ℕ, List, [], ◌∷◌, Option, Some, None, Bool, true, false}
+use Rattle.std.specs.Prelude.{List, [], ◌∷◌, Option, Some, None, Bool, true, false}
 use Rattle.sql_lex.specs.declared.token.Word.TheVariants as w
 use Rattle.sql_lex.specs.declared.token.Sign.TheVariants as s
 use Rattle.sql_parse.specs.declared.tree.statement.Sizes.{Sizes}
@@ -11,8 +11,8 @@ use Rattle.sql_parse.specs.declared.tree.statement.Statement.{Statement}
 use Rattle.sql_parse.specs.declared.tree.statement.Statement.TheVariants as t
 use Rattle.sql_parse.specs.declared.tree.statement.Script.{Script}
 use Rattle.sql_parse.specs.Form.{Form, empty, many}
-use Rattle.sql_parse.specs.Classes.{word_class, header_class, delimiter_class}
-use Rattle.sql_parse.specs.Combinators.{◌<$>◌, ◌<*>◌, ◌<*◌, ◌>>◌, ◌or◌, token, word, sign, name, text, integer, optional, has, list, parenthesized}
+use Rattle.sql_parse.specs.Classes.{header_class, delimiter_class}
+use Rattle.sql_parse.specs.Combinators.{◌<$>◌, ◌<*>◌, ◌>>◌, ◌or◌, token, word, sign, name, text, integer, optional, has, list, parenthesized}
 use Rattle.sql_parse.specs.Selects.{select}
 
 -- "(" int [ "," int ] ")"

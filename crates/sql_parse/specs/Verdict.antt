@@ -1,5 +1,5 @@
 -- What `parse` answers.
-use Rattle.std.specs.Prelude.{◌≡◌, ℕ, ◌+◌, List, [], ◌∷◌, ◌++◌}
+use Rattle.std.specs.Prelude.{◌≡◌, ◌⊎◌, ℕ, ◌+◌, List, [], ◌∷◌, ◌++◌, Result, Ok, Err}
 use Rattle.sql_parse.specs.Lexeme.{Lexeme}
 use Rattle.sql_parse.specs.declared.tree.statement.Script.{Script}
 use Rattle.sql_parse.specs.declared.fault.ParseFault.{ParseFault}
@@ -52,3 +52,8 @@ abbrev pub Refuses : ℕ → List Lexeme → ParseFault → Type 0
 Refuses end w (Syntax place) = SyntaxAt end w place
 Refuses end w (TooDeep place) = TooDeepAt w place
 Refuses end w OutOfMemory = Unit {0}
+
+-- it was refused with this fault, or for want of memory
+abbrev pub IsRefusedWith : ParseFault → Result Script ParseFault → Type 0
+IsRefusedWith fault (Ok s) = ⊥
+IsRefusedWith fault (Err e) = (e ≡ fault) ⊎ (e ≡ OutOfMemory)

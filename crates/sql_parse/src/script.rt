@@ -8,7 +8,7 @@ ghost use Rattle.sql_parse.specs.Combinators.{optional};
 ghost use Rattle.sql_parse.specs.Nesting.{readers};
 ghost use Rattle.sql_parse.specs.Whole as whole;
 ghost use Rattle.sql_parse.specs.Whole.{Gives};
-ghost use Rattle.sql_parse.specs.Verdict.{IsScript, Refuses, limit};
+ghost use Rattle.sql_parse.specs.Verdict.{IsScript, Refuses, SyntaxAt, TooDeepAt, IsRefusedWith, limit};
 ghost use Rattle.sql_parse.specs.Statements as form;
 
 use crate::cursor::Cursor;
@@ -106,6 +106,9 @@ fn parse_tokens(alloc: Global, script: &[u8], tokens: &[Token]) -> Result<Script
     ensures only { (s : ScriptTree) → IsScript limit s (lexemes script.now tokens.now) → MatchResult result (λ found. found ≡ s) (λ e. e ≡ ParseFault.OutOfMemory) }
     // Each fault is where the grammar has it.
     ensures refuses { IfErr result (λ e. Refuses (length script.now) (lexemes script.now tokens.now) e) }
+    // And where the grammar has one, it is given, unless memory runs out.
+    ensures syntax { (place : ℕ) → SyntaxAt (length script.now) (lexemes script.now tokens.now) place → IsRefusedWith (ParseFault.Syntax place) result }
+    ensures too_deep { (place : ℕ) → TooDeepAt (lexemes script.now tokens.now) place → IsRefusedWith (ParseFault.TooDeep place) result }
 {
     let mut cursor = Cursor::new(script, tokens);
     match whole(alloc, &mut cursor, LIMIT) {
@@ -132,6 +135,9 @@ pub fn parse(alloc: Global, tokens: &Tokens<'_>) -> Result<Script, ParseFault>
     ensures only { (s : ScriptTree) → IsScript limit s (lexemes tokens.now.script tokens.now.list) → MatchResult result (λ found. found ≡ s) (λ e. e ≡ ParseFault.OutOfMemory) }
     // Each fault is where the grammar has it.
     ensures refuses { IfErr result (λ e. Refuses (length tokens.now.script) (lexemes tokens.now.script tokens.now.list) e) }
+    // And where the grammar has one, it is given, unless memory runs out.
+    ensures syntax { (place : ℕ) → SyntaxAt (length tokens.now.script) (lexemes tokens.now.script tokens.now.list) place → IsRefusedWith (ParseFault.Syntax place) result }
+    ensures too_deep { (place : ℕ) → TooDeepAt (lexemes tokens.now.script tokens.now.list) place → IsRefusedWith (ParseFault.TooDeep place) result }
 {
     parse_tokens(alloc, tokens.script(), tokens.as_slice())
 }

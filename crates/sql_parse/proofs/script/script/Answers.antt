@@ -1,4 +1,4 @@
-use Rattle.std.proofs.Common.{◌≡◌, ◌<◌, length, true, [], ◌∷◌, ◌++◌, Ok, Err, refl, sym, ◌∙◌, ap, rules, arith}
+use Rattle.std.proofs.Common.{◌≡◌, ◌<◌, length, true, [], ◌∷◌, ◌++◌, Err, sym, ◌∙◌, ap, rules, arith}
 use Rattle.std.proofs.lemmas.Grind.{common_steps}
 use Rattle.sql_lex.specs.declared.token.Sign.TheVariants as s
 use Rattle.sql_parse.specs.Lexeme.{first, tail, sees}
@@ -8,7 +8,7 @@ use Rattle.sql_parse.specs.Reading.{read}
 use Rattle.sql_parse.specs.Nesting.{readers}
 use Rattle.sql_parse.specs.Statements as form
 use Rattle.sql_parse.proofs.Lists.{seen_some}
-use Rattle.sql_parse.proofs.Scripts.{script_started, script_stepped, script_failed, script_ended}
+use Rattle.sql_parse.proofs.Scripts.{script_started, script_not_started, script_stepped, script_failed, script_ended}
 use Rattle.sql_parse.proofs.script.script.Goals as goal
 
 pub turns-init : goal.turns-init
@@ -37,3 +37,9 @@ returns-in_err-next-clause-gives c =
 
 pub returns-clause-gives : goal.returns-clause-gives
 returns-clause-gives c = script_ended (readers c.args.depth) c.args.cursor.now c.turns.statements c.turns.cursor c.turns.invariant.so_far (sym c.at_sign.ensures ∙ c.turns-test.false)
+
+pub returns-in_err-first-clause-gives : goal.returns-in_err-first-clause-gives
+returns-in_err-first-clause-gives c =
+    let f = λ (f : _) (p : read (readers c.args.depth) (optional form.statement) c.args.cursor.now ≡ Err (f, c.optional_statement.new.cursor)).
+    script_not_started (readers c.args.depth) c.args.cursor.now (f, c.optional_statement.new.cursor) p in
+    first_of (search rules, grind (arith, common_steps))
