@@ -15,7 +15,7 @@ begins_is (empty a) None = refl
 begins_is (empty a) (Some x) = refl
 begins_is (one classes f) x = refl
 begins_is (both f p q) x = go (nullable p)
-  (or_same (begins p x) (begins q x) (sees (firsts p) x) (sees (firsts q) x) (begins_is p x) (begins_is q x) ∙ sym (sees_append x (firsts p) (firsts q))) (begins_is p x)
+    (or_same (begins p x) (begins q x) (sees (firsts p) x) (sees (firsts q) x) (begins_is p x) (begins_is q x) ∙ sym (sees_append x (firsts p) (firsts q))) (begins_is p x)
   where
     go : (b : Bool) → (if begins p x then true else begins q x) ≡ sees (firsts p ++ firsts q) x → begins p x ≡ sees (firsts p) x
         → (if b then (if begins p x then true else begins q x) else begins p x) ≡ sees (if b then (firsts p ++ firsts q) else firsts p) x

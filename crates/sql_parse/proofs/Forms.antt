@@ -119,6 +119,7 @@ module _ (n : Readers) (m : Inner) (last : Sort → List ℕ) (inner : (s : Sort
       of_p : (b : Bool) → sees (if b then (goes_on last q ++ goes_on last p) else goes_on last q) (first r) ≡ false → b ≡ true → sees (goes_on last p) (first r) ≡ false
       of_p true k c = unseen_right (first r) (goes_on last q) (goes_on last p) k
       of_p false k c = absurd cc
+
       of_q : (b : Bool) → sees (if b then (goes_on last q ++ goes_on last p) else goes_on last q) (first r) ≡ false → sees (goes_on last q) (first r) ≡ false
       of_q true k = unseen_left (first r) (goes_on last q) (goes_on last p) k
       of_q false k = k
@@ -142,6 +143,7 @@ module _ (n : Readers) (m : Inner) (last : Sort → List ℕ) (inner : (s : Sort
       of_q : (b : Bool) → sees (if b then (goes_on last p ++ (goes_on last q ++ firsts p)) else (goes_on last p ++ goes_on last q)) (first r) ≡ false → sees (goes_on last q) (first r) ≡ false
       of_q true k = unseen_left (first r) (goes_on last q) (firsts p) (unseen_right (first r) (goes_on last p) (goes_on last q ++ firsts p) k)
       of_q false k = unseen_right (first r) (goes_on last p) (goes_on last q) k
+
       of_first : (b : Bool) → sees (if b then (goes_on last p ++ (goes_on last q ++ firsts p)) else (goes_on last p ++ goes_on last q)) (first r) ≡ false → b ≡ true → sees (firsts p) (first r) ≡ false
       of_first true k c = unseen_right (first r) (goes_on last q) (firsts p) (unseen_right (first r) (goes_on last p) (goes_on last q ++ firsts p) k)
       of_first false k c = absurd cc

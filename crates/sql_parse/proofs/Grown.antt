@@ -60,7 +60,7 @@ many_falls : {A : Type 0} (starts : Option Lexeme → Bool) (p : Parser A) → (
 unfolding many_from
 many_falls starts p each zero w = stays w
 many_falls starts p each (suc k) w = go (starts (first w))
-  (then_falls (λ a r. and_then (many_from starts p k r) (λ list s. Ok (a ∷ list, s))) (λ a r. then_falls (λ list s. Ok (a ∷ list, s)) (λ list s. stays s) r (many_from starts p k r) (many_falls starts p each k r)) w (p w) (each w))
+    (then_falls (λ a r. and_then (many_from starts p k r) (λ list s. Ok (a ∷ list, s))) (λ a r. then_falls (λ list s. Ok (a ∷ list, s)) (λ list s. stays s) r (many_from starts p k r) (many_falls starts p each k r)) w (p w) (each w))
   where
     go : (b : Bool) → Falls w (rest_of (and_then (p w) (λ a r. and_then (many_from starts p k r) (λ list s. Ok (a ∷ list, s)))))
         → Falls w (rest_of (if b then and_then (p w) (λ a r. and_then (many_from starts p k r) (λ list s. Ok (a ∷ list, s))) else Ok ([], w)))
@@ -138,21 +138,21 @@ module _ (n n2 : Readers) (h : (s : Sort) → EachFalls (n2 s)) (each : (s : Sor
   unfolding many_from
   many_grown starts p q grows fall zero w = refl
   many_grown starts p q grows fall (suc k) w = if_grown (starts (first w))
-    (and_then (p w) (λ a r. and_then (many_from starts p k r) (λ list s. Ok (a ∷ list, s)))) (Ok ([], w))
-    (and_then (q w) (λ a r. and_then (many_from starts q k r) (λ list s. Ok (a ∷ list, s)))) (Ok ([], w))
-    (grown_then (λ a r. and_then (many_from starts p k r) (λ list s. Ok (a ∷ list, s))) (λ a r. and_then (many_from starts q k r) (λ list s. Ok (a ∷ list, s)))
-    (λ a r. grown_then (λ list s. Ok (a ∷ list, s)) (λ list s. Ok (a ∷ list, s)) (λ list s. refl) (λ list s. stays s) (many_from starts p k r) (many_from starts q k r) (many_grown starts p q grows fall k r))
-    (λ a r. then_falls (λ list s. Ok (a ∷ list, s)) (λ list s. stays s) r (many_from starts q k r) (many_falls starts q fall k r))
-    (p w) (q w) (grows w))
-    refl
+      (and_then (p w) (λ a r. and_then (many_from starts p k r) (λ list s. Ok (a ∷ list, s)))) (Ok ([], w))
+      (and_then (q w) (λ a r. and_then (many_from starts q k r) (λ list s. Ok (a ∷ list, s)))) (Ok ([], w))
+      (grown_then (λ a r. and_then (many_from starts p k r) (λ list s. Ok (a ∷ list, s))) (λ a r. and_then (many_from starts q k r) (λ list s. Ok (a ∷ list, s)))
+      (λ a r. grown_then (λ list s. Ok (a ∷ list, s)) (λ list s. Ok (a ∷ list, s)) (λ list s. refl) (λ list s. stays s) (many_from starts p k r) (many_from starts q k r) (many_grown starts p q grows fall k r))
+      (λ a r. then_falls (λ list s. Ok (a ∷ list, s)) (λ list s. stays s) r (many_from starts q k r) (many_falls starts q fall k r))
+      (p w) (q w) (grows w))
+      refl
 
   pub grown : {A : Type 0} (p : Form A) (w : List Lexeme) → Grown (read n p w) (read n2 p w)
   grown (empty a) w = refl
   grown (one classes f) w = if_grown (sees classes (first w)) (taken f (first w) (tail w)) (Err (Syntax, w)) (taken f (first w) (tail w)) (Err (Syntax, w)) (same_grown f (first w) (tail w)) refl
   grown (both f p q) w = grown_then (λ a r. and_then (read n q r) (λ b s. Ok (f a b, s))) (λ a r. and_then (read n2 q r) (λ b s. Ok (f a b, s)))
-    (λ a r. grown_then (λ b s. Ok (f a b, s)) (λ b s. Ok (f a b, s)) (λ b s. refl) (λ b s. stays s) (read n q r) (read n2 q r) (grown q r))
-    (λ a r. then_falls (λ b s. Ok (f a b, s)) (λ b s. stays s) r (read n2 q r) (falls n2 h q r))
-    (read n p w) (read n2 p w) (grown p w)
+      (λ a r. grown_then (λ b s. Ok (f a b, s)) (λ b s. Ok (f a b, s)) (λ b s. refl) (λ b s. stays s) (read n q r) (read n2 q r) (grown q r))
+      (λ a r. then_falls (λ b s. Ok (f a b, s)) (λ b s. stays s) r (read n2 q r) (falls n2 h q r))
+      (read n p w) (read n2 p w) (grown p w)
   grown (either p q) w = if_grown (begins p (first w)) (read n p w) (read n q w) (read n2 p w) (read n2 q w) (grown p w) (grown q w)
   grown (many p) w = many_grown (begins p) (read n p) (read n2 p) (grown p) (falls n2 h p) (length w) w
   grown (nest opener s f) w = nest_grown opener f (n s) (n2 s) (each s) w

@@ -325,6 +325,7 @@ module _ {A : Type 0} (classes : List ℕ) (two three : ℕ) (f : Lexeme → A) 
         goes : MayGoOn L s.front → MayGoOn (λ a w. Phrase classes two three f a w ⊎ L a w) s.front
         goes (inl e) = inl e
         goes (inr v) = inr (v.0, v.1, inr v.2)
+
         -- where the phrase begins, the rule stops at its third token, and that is the next one
         third : (r : List Lexeme) → first r ≡ first q.1 → Begun (s.front ++ r) → sees_phrase classes two three w ≡ true
         third r e b =
@@ -335,6 +336,7 @@ module _ {A : Type 0} (classes : List ℕ) (two three : ℕ) (f : Lexeme → A) 
             ap (sees_phrase classes two three) wi
             ∙ ap (λ o. if is_among b.x.class classes then (if is_among b.y.class (two ∷ []) then sees (three ∷ []) o else false) else false) fi
             ∙ seen b.x b.y b.z [] b.is_x b.is_y b.is_z
+
         still : (r : List Lexeme) → first r ≡ first q.1 → (d : Bool) → sees_phrase classes two three (s.front ++ r) ≡ d → phrase_read (s.front ++ r) ≡ Err (q.0, r)
         still r e true h = let k = third r e (begun (s.front ++ r) h) in absurd (let f : false ≡ true = sym none ∙ k in cc)
         still r e false h = no_phrase (s.front ++ r) h ∙ s.again r e
@@ -345,6 +347,7 @@ module _ {A : Type 0} (classes : List ℕ) (two three : ℕ) (f : Lexeme → A) 
         other : sees_phrase classes two three w ≡ false → (o : Outcome A) → Says P L w o → Says phrase_read (λ a w. Phrase classes two three f a w ⊎ L a w) w o
         other e (Ok p) t = other_ok w p t
         other e (Err q) t = other_err w e q t
+
         by_test : (d : Bool) → sees_phrase classes two three w ≡ d → Says phrase_read (λ a w. Phrase classes two three f a w ⊎ L a w) w (if d then taken f (first w) (tail (tail (tail w))) else P w)
         by_test true e = phrase_ok w (begun w e)
         by_test false e = other e (P w) s

@@ -81,8 +81,10 @@ module _ (n : Readers) where
     where
       is_class : (k : ℕ) → (x.class == k) ≡ true → x ≡ at_class k x
       is_class k h = ap (λ k. at_class k x) (same x.class k h)
+
       at : (k : ℕ) → (x.class == k) ≡ true → stops_at k → read n q.value_item (x ∷ at_class (sign_class s.Dot) y ∷ at_class (sign_class s.Star) z ∷ r) ≡ Err (Syntax, at_class (sign_class s.Star) z ∷ r)
       at k h g = subst (λ x. read n q.value_item (x ∷ at_class (sign_class s.Dot) y ∷ at_class (sign_class s.Star) z ∷ r) ≡ Err (Syntax, at_class (sign_class s.Star) z ∷ r)) (sym (is_class k h)) (g x y z r)
+
       by_class : (a b c d : Bool) → (x.class == 60) ≡ a → (x.class == 61) ≡ b → (x.class == 62) ≡ c → (x.class == 63) ≡ d
           → (if a then true else if b then true else if c then true else if d then true else false) ≡ true
           → read n q.value_item (x ∷ at_class (sign_class s.Dot) y ∷ at_class (sign_class s.Star) z ∷ r) ≡ Err (Syntax, at_class (sign_class s.Star) z ∷ r)

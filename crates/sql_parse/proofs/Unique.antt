@@ -69,8 +69,10 @@ module _ (end : ℕ) (w : List Lexeme) where
     where
       token_of : (f : List Lexeme) (t : Lexeme) (m : List Lexeme) (l : Longer f (t ∷ m) p.front) → l.x ≡ t
       token_of f t m l = sym (same_head t l.x m l.more l.rest)
+
       token_of2 : (f : List Lexeme) (t : Lexeme) (m : List Lexeme) (l : Longer f (t ∷ m) q.front) → l.x ≡ t
       token_of2 f t m l = sym (same_head t l.x m l.more l.rest)
+
       go : Splits p.front (p.token ∷ p.more) q.front (q.token ∷ q.more) → a ≡ b
       go (inl e) = p.stands ∙ ap (λ t. t.start) (same_head p.token q.token p.more q.more e.1) ∙ sym q.stands
       go (inr (inl l)) = absurd (p.at (subst (λ t. Begins limit (p.front ++ t ∷ [])) (token_of2 p.front p.token p.more l) (of_longer limit p.front (p.token ∷ p.more) q.front l q.before)))

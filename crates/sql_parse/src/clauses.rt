@@ -73,7 +73,11 @@ pub(crate) fn items(alloc: Global, cursor: &mut Cursor<'_>, depth: u8) -> Result
 }
 
 #[tactic(auto, unfolding(crate::specs::Selects::condition))]
-pub(crate) fn condition(alloc: Global, cursor: &mut Cursor<'_>, depth: u8) -> Result<Condition, Fault>
+pub(crate) fn condition(
+    alloc: Global,
+    cursor: &mut Cursor<'_>,
+    depth: u8,
+) -> Result<Condition, Fault>
     ensures gives { Gives (read (readers depth) form.condition cursor.old) result cursor.new }
     ensures shrinks { length cursor.new ≤ length cursor.old }
 {
@@ -83,7 +87,11 @@ pub(crate) fn condition(alloc: Global, cursor: &mut Cursor<'_>, depth: u8) -> Re
 }
 
 #[tactic(auto, unfolding(crate::specs::Selects::filter))]
-pub(crate) fn filter(alloc: Global, cursor: &mut Cursor<'_>, depth: u8) -> Result<Option<Condition>, Fault>
+pub(crate) fn filter(
+    alloc: Global,
+    cursor: &mut Cursor<'_>,
+    depth: u8,
+) -> Result<Option<Condition>, Fault>
     ensures gives { Gives (read (readers depth) form.filter cursor.old) result cursor.new }
     ensures shrinks { length cursor.new ≤ length cursor.old }
 {
@@ -111,7 +119,11 @@ fn exprs(alloc: Global, cursor: &mut Cursor<'_>, depth: u8) -> Result<Items<Boxe
 }
 
 #[tactic(auto, unfolding(crate::specs::Selects::grouping))]
-pub(crate) fn grouping(alloc: Global, cursor: &mut Cursor<'_>, depth: u8) -> Result<Items<Boxed<Expr>>, Fault>
+pub(crate) fn grouping(
+    alloc: Global,
+    cursor: &mut Cursor<'_>,
+    depth: u8,
+) -> Result<Items<Boxed<Expr>>, Fault>
     ensures gives { Gives (read (readers depth) form.grouping cursor.old) result cursor.new }
     ensures shrinks { length cursor.new ≤ length cursor.old }
 {
@@ -124,7 +136,11 @@ pub(crate) fn grouping(alloc: Global, cursor: &mut Cursor<'_>, depth: u8) -> Res
 }
 
 #[tactic(auto, unfolding(crate::specs::Selects::having))]
-pub(crate) fn having(alloc: Global, cursor: &mut Cursor<'_>, depth: u8) -> Result<Option<Condition>, Fault>
+pub(crate) fn having(
+    alloc: Global,
+    cursor: &mut Cursor<'_>,
+    depth: u8,
+) -> Result<Option<Condition>, Fault>
     ensures gives { Gives (read (readers depth) form.having cursor.old) result cursor.new }
     ensures shrinks { length cursor.new ≤ length cursor.old }
 {
@@ -189,7 +205,11 @@ fn keys(alloc: Global, cursor: &mut Cursor<'_>, depth: u8) -> Result<Items<Key>,
 }
 
 #[tactic(auto, unfolding(crate::specs::Selects::ordering))]
-pub(crate) fn ordering(alloc: Global, cursor: &mut Cursor<'_>, depth: u8) -> Result<Items<Key>, Fault>
+pub(crate) fn ordering(
+    alloc: Global,
+    cursor: &mut Cursor<'_>,
+    depth: u8,
+) -> Result<Items<Key>, Fault>
     ensures gives { Gives (read (readers depth) form.ordering cursor.old) result cursor.new }
     ensures shrinks { length cursor.new ≤ length cursor.old }
 {

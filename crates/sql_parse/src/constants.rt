@@ -15,7 +15,11 @@ use sqlite_items::Items;
 use std::alloc::Global;
 
 /// `const { "," const }`
-pub(crate) fn constants(alloc: Global, cursor: &mut Cursor<'_>, depth: u8) -> Result<Items<Constant>, Fault>
+pub(crate) fn constants(
+    alloc: Global,
+    cursor: &mut Cursor<'_>,
+    depth: u8,
+) -> Result<Items<Constant>, Fault>
     ensures gives { Gives (read (readers depth) (list form.constant) cursor.old) result cursor.new }
     ensures shrinks { length cursor.new ≤ length cursor.old }
 {

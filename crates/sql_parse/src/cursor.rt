@@ -102,11 +102,17 @@ fn sign_number(sign: Sign) -> u8
 }
 
 pub(crate) const PLAIN: u8 = 60;
+
 pub(crate) const QUOTED: u8 = 61;
+
 pub(crate) const HEADER: u8 = 62;
+
 pub(crate) const DELIMITER: u8 = 63;
+
 pub(crate) const TEXT: u8 = 64;
+
 pub(crate) const INTEGER: u8 = 65;
+
 pub(crate) const DECIMAL: u8 = 66;
 
 /// Whether the token from `start` to before `end` is spelled with these small letters.

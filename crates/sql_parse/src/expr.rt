@@ -9,7 +9,10 @@ ghost use Rattle.sql_parse.specs.Expressions as form;
 use crate::cursor::Cursor;
 use crate::fault::Fault;
 use crate::leaves::{compare_sign, literal, sum_sign, term_sign};
-use crate::looks::{at_and, at_comparison, at_group, at_like, at_named, at_null_test, at_one_of, at_or, at_range_test, at_sum_sign, at_term_sign};
+use crate::looks::{
+    at_and, at_comparison, at_group, at_like, at_named, at_null_test, at_one_of, at_or,
+    at_range_test, at_sum_sign, at_term_sign,
+};
 use crate::nodes::{chain, either, every};
 use crate::predicates::{like, null_test, one_of};
 use crate::tree::{Argument, ColumnName, Expr, Link, Operand};
@@ -151,10 +154,7 @@ fn unary(alloc: Global, cursor: &mut Cursor<'_>, depth: u8) -> Result<Boxed<Expr
     }
     let place = cursor.span().start;
     let operand = nested_unary(alloc, cursor, depth)?;
-    let node = Expr::Minus {
-        place,
-        operand,
-    };
+    let node = Expr::Minus { place, operand };
     Ok(Boxed::new(alloc, node)?)
 }
 
@@ -234,7 +234,12 @@ fn sum(alloc: Global, cursor: &mut Cursor<'_>, depth: u8) -> Result<Boxed<Expr>,
 
 #[cycle(expr)]
 #[tactic(auto, unfolding(crate::specs::Expressions::comparison))]
-fn comparison(alloc: Global, cursor: &mut Cursor<'_>, left: Boxed<Expr>, depth: u8) -> Result<Boxed<Expr>, Fault>
+fn comparison(
+    alloc: Global,
+    cursor: &mut Cursor<'_>,
+    left: Boxed<Expr>,
+    depth: u8,
+) -> Result<Boxed<Expr>, Fault>
     ensures gives { Gives (and_then (read (readers depth) form.comparison cursor.old) (λ test r. Ok (test left, r))) result cursor.new }
     ensures shrinks { length cursor.new ≤ length cursor.old }
 {
@@ -251,7 +256,13 @@ fn comparison(alloc: Global, cursor: &mut Cursor<'_>, left: Boxed<Expr>, depth: 
 
 #[cycle(expr)]
 #[tactic(auto, unfolding(crate::specs::Expressions::between))]
-fn between(alloc: Global, cursor: &mut Cursor<'_>, left: Boxed<Expr>, negated: bool, depth: u8) -> Result<Boxed<Expr>, Fault>
+fn between(
+    alloc: Global,
+    cursor: &mut Cursor<'_>,
+    left: Boxed<Expr>,
+    negated: bool,
+    depth: u8,
+) -> Result<Boxed<Expr>, Fault>
     ensures gives { Gives (and_then (read (readers depth) form.between cursor.old) (λ test r. Ok (test negated left, r))) result cursor.new }
     ensures shrinks { length cursor.new ≤ length cursor.old }
 {
@@ -272,7 +283,12 @@ fn between(alloc: Global, cursor: &mut Cursor<'_>, left: Boxed<Expr>, negated: b
 /// LIKE, IN or BETWEEN, with or without NOT.
 #[cycle(expr)]
 #[tactic(auto, unfolding(crate::specs::Expressions::range_test))]
-fn range_test(alloc: Global, cursor: &mut Cursor<'_>, left: Boxed<Expr>, depth: u8) -> Result<Boxed<Expr>, Fault>
+fn range_test(
+    alloc: Global,
+    cursor: &mut Cursor<'_>,
+    left: Boxed<Expr>,
+    depth: u8,
+) -> Result<Boxed<Expr>, Fault>
     ensures gives { Gives (and_then (read (readers depth) form.range_test cursor.old) (λ test r. Ok (test left, r))) result cursor.new }
     ensures shrinks { length cursor.new ≤ length cursor.old }
 {
@@ -289,7 +305,12 @@ fn range_test(alloc: Global, cursor: &mut Cursor<'_>, left: Boxed<Expr>, depth: 
 /// What may stand after a sum.
 #[cycle(expr)]
 #[tactic(auto, unfolding(crate::specs::Expressions::test))]
-fn test(alloc: Global, cursor: &mut Cursor<'_>, left: Boxed<Expr>, depth: u8) -> Result<Boxed<Expr>, Fault>
+fn test(
+    alloc: Global,
+    cursor: &mut Cursor<'_>,
+    left: Boxed<Expr>,
+    depth: u8,
+) -> Result<Boxed<Expr>, Fault>
     ensures gives { Gives (and_then (read (readers depth) form.test cursor.old) (λ test r. Ok (test left, r))) result cursor.new }
     ensures shrinks { length cursor.new ≤ length cursor.old }
 {
@@ -325,10 +346,7 @@ fn neg(alloc: Global, cursor: &mut Cursor<'_>, depth: u8) -> Result<Boxed<Expr>,
     }
     let place = cursor.span().start;
     let operand = nested_neg(alloc, cursor, depth)?;
-    let node = Expr::Not {
-        place,
-        operand,
-    };
+    let node = Expr::Not { place, operand };
     Ok(Boxed::new(alloc, node)?)
 }
 

@@ -93,7 +93,10 @@ pub(crate) fn sum_sign(cursor: &mut Cursor<'_>, depth: u8) -> Result<(ChainSign,
 }
 
 #[tactic(auto, unfolding(crate::specs::Expressions::compare_sign))]
-pub(crate) fn compare_sign(cursor: &mut Cursor<'_>, depth: u8) -> Result<(CompareSign, usize), Fault>
+pub(crate) fn compare_sign(
+    cursor: &mut Cursor<'_>,
+    depth: u8,
+) -> Result<(CompareSign, usize), Fault>
     ensures gives { Gives (read (readers depth) form.compare_sign cursor.old) result cursor.new }
     ensures shrinks { length cursor.new ≤ length cursor.old }
 {

@@ -9,7 +9,6 @@ mod fault;
 mod leaves;
 mod looks;
 mod nodes;
-
 mod predicates;
 mod script;
 mod select;
@@ -18,3 +17,6 @@ pub mod tree;
 
 pub use fault::ParseFault;
 pub use script::parse;
+
+#[cfg(test)]
+mod tests;

@@ -15,7 +15,12 @@ use std::alloc::Global;
 
 /// IS NULL or IS NOT NULL.
 #[tactic(auto, unfolding(crate::specs::Expressions::null_test))]
-pub(crate) fn null_test(alloc: Global, cursor: &mut Cursor<'_>, left: Boxed<Expr>, depth: u8) -> Result<Boxed<Expr>, Fault>
+pub(crate) fn null_test(
+    alloc: Global,
+    cursor: &mut Cursor<'_>,
+    left: Boxed<Expr>,
+    depth: u8,
+) -> Result<Boxed<Expr>, Fault>
     ensures gives { Gives (and_then (read (readers depth) form.null_test cursor.old) (λ test r. Ok (test left, r))) result cursor.new }
     ensures shrinks { length cursor.new ≤ length cursor.old }
 {
@@ -31,7 +36,13 @@ pub(crate) fn null_test(alloc: Global, cursor: &mut Cursor<'_>, left: Boxed<Expr
 }
 
 #[tactic(auto, unfolding(crate::specs::Expressions::like))]
-pub(crate) fn like(alloc: Global, cursor: &mut Cursor<'_>, left: Boxed<Expr>, negated: bool, depth: u8) -> Result<Boxed<Expr>, Fault>
+pub(crate) fn like(
+    alloc: Global,
+    cursor: &mut Cursor<'_>,
+    left: Boxed<Expr>,
+    negated: bool,
+    depth: u8,
+) -> Result<Boxed<Expr>, Fault>
     ensures gives { Gives (and_then (read (readers depth) form.like cursor.old) (λ test r. Ok (test negated left, r))) result cursor.new }
     ensures shrinks { length cursor.new ≤ length cursor.old }
 {
@@ -47,7 +58,13 @@ pub(crate) fn like(alloc: Global, cursor: &mut Cursor<'_>, left: Boxed<Expr>, ne
 }
 
 #[tactic(auto, unfolding(crate::specs::Expressions::one_of))]
-pub(crate) fn one_of(alloc: Global, cursor: &mut Cursor<'_>, left: Boxed<Expr>, negated: bool, depth: u8) -> Result<Boxed<Expr>, Fault>
+pub(crate) fn one_of(
+    alloc: Global,
+    cursor: &mut Cursor<'_>,
+    left: Boxed<Expr>,
+    negated: bool,
+    depth: u8,
+) -> Result<Boxed<Expr>, Fault>
     ensures gives { Gives (and_then (read (readers depth) form.one_of cursor.old) (λ test r. Ok (test negated left, r))) result cursor.new }
     ensures shrinks { length cursor.new ≤ length cursor.old }
 {

@@ -25,7 +25,11 @@ use std::alloc::{AllocError, Global};
 fn at_statement(cursor: &Cursor<'_>) -> bool
     ensures { result ≡ begins form.statement (first cursor.now) }
 {
-    at_create(cursor) || at_drop(cursor) || at_copy(cursor) || cursor.at_word(Word::Explain) || cursor.at_word(Word::Select)
+    at_create(cursor)
+        || at_drop(cursor)
+        || at_copy(cursor)
+        || cursor.at_word(Word::Explain)
+        || cursor.at_word(Word::Select)
 }
 
 #[tactic(auto, unfolding(crate::specs::Statements::statement))]
@@ -48,7 +52,11 @@ fn statement(alloc: Global, cursor: &mut Cursor<'_>, depth: u8) -> Result<Statem
 }
 
 /// `[ statement ]`
-fn optional_statement(alloc: Global, cursor: &mut Cursor<'_>, depth: u8) -> Result<Option<Statement>, Fault>
+fn optional_statement(
+    alloc: Global,
+    cursor: &mut Cursor<'_>,
+    depth: u8,
+) -> Result<Option<Statement>, Fault>
     ensures gives { Gives (read (readers depth) (optional form.statement) cursor.old) result cursor.new }
     ensures shrinks { length cursor.new ≤ length cursor.old }
 {

@@ -6,7 +6,10 @@ ghost use Rattle.sql_parse.specs.Nesting.{readers};
 ghost use Rattle.sql_parse.specs.Whole.{Gives};
 ghost use Rattle.sql_parse.specs.Selects as form;
 
-use crate::clauses::{alias, at_join, at_subquery, condition, filter, grouping, having, items, join_word, limit, offset, ordering};
+use crate::clauses::{
+    alias, at_join, at_subquery, condition, filter, grouping, having, items, join_word, limit,
+    offset, ordering,
+};
 use crate::cursor::Cursor;
 use crate::fault::Fault;
 use crate::tree::{Join, Select, Source, Sources};
@@ -51,7 +54,11 @@ fn subquery_source(alloc: Global, cursor: &mut Cursor<'_>, depth: u8) -> Result<
     cursor.sign(Sign::RightParenthesis)?;
     cursor.skip_word(Word::As);
     let alias = cursor.name()?;
-    Ok(Source::Query { place, query, alias })
+    Ok(Source::Query {
+        place,
+        query,
+        alias,
+    })
 }
 
 #[cycle(select)]
@@ -114,7 +121,11 @@ fn sources(alloc: Global, cursor: &mut Cursor<'_>, depth: u8) -> Result<Sources,
 
 #[cycle(select)]
 #[tactic(auto, unfolding(crate::specs::Selects::select))]
-pub(crate) fn select(alloc: Global, cursor: &mut Cursor<'_>, depth: u8) -> Result<Boxed<Select>, Fault>
+pub(crate) fn select(
+    alloc: Global,
+    cursor: &mut Cursor<'_>,
+    depth: u8,
+) -> Result<Boxed<Select>, Fault>
     ensures gives { Gives (read (readers depth) form.select cursor.old) result cursor.new }
     ensures shrinks { length cursor.new ≤ length cursor.old }
 {

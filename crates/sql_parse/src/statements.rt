@@ -69,7 +69,11 @@ fn column(cursor: &mut Cursor<'_>, depth: u8) -> Result<Column, Fault>
     let name = cursor.name()?;
     let kind = type_name(cursor, depth)?;
     let not_null = not_null(cursor, depth)?;
-    Ok(Column { name, kind, not_null })
+    Ok(Column {
+        name,
+        kind,
+        not_null,
+    })
 }
 
 /// `column { "," column }`
@@ -148,7 +152,11 @@ fn option(cursor: &mut Cursor<'_>, depth: u8) -> Result<CopyOption, Fault>
 }
 
 /// `option { "," option }`
-fn option_list(alloc: Global, cursor: &mut Cursor<'_>, depth: u8) -> Result<Items<CopyOption>, Fault>
+fn option_list(
+    alloc: Global,
+    cursor: &mut Cursor<'_>,
+    depth: u8,
+) -> Result<Items<CopyOption>, Fault>
     ensures gives { Gives (read (readers depth) (list form.option) cursor.old) result cursor.new }
     ensures shrinks { length cursor.new ≤ length cursor.old }
 {
@@ -187,7 +195,11 @@ pub(crate) fn copy(alloc: Global, cursor: &mut Cursor<'_>, depth: u8) -> Result<
     cursor.word(Word::From)?;
     let file = cursor.text()?;
     let options = options(alloc, cursor, depth)?;
-    Ok(Statement::Copy { name, file, options })
+    Ok(Statement::Copy {
+        name,
+        file,
+        options,
+    })
 }
 
 /// Whether CREATE TABLE comes next.

@@ -5,6 +5,8 @@ mod expr;
 mod select;
 mod statement;
 
-pub use expr::{Argument, ChainSign, ColumnName, CompareSign, Constant, Expr, Link, Literal, Operand, Span};
+pub use expr::{
+    Argument, ChainSign, ColumnName, CompareSign, Constant, Expr, Link, Literal, Operand, Span,
+};
 pub use select::{Condition, Item, Join, Key, KeyColumn, Select, Source, Sources};
 pub use statement::{Column, CopyOption, Script, Sizes, Statement, TypeName};

@@ -26,7 +26,10 @@ pub enum Item {
     Star(usize),
     /// All columns of the source of that name.
     SourceStar(Span),
-    Value { value: Boxed<Expr>, alias: Option<Span> },
+    Value {
+        value: Boxed<Expr>,
+        alias: Option<Span>,
+    },
 }
 
 /// A condition; `place` is that of its first token.
@@ -48,9 +51,16 @@ pub enum Sources {
 #[cycle(select)]
 #[derive(Drop)]
 pub enum Source {
-    Table { name: Span, alias: Option<Span> },
+    Table {
+        name: Span,
+        alias: Option<Span>,
+    },
     /// `place` is that of its parenthesis.
-    Query { place: usize, query: Boxed<Select>, alias: Span },
+    Query {
+        place: usize,
+        query: Boxed<Select>,
+        alias: Span,
+    },
 }
 
 /// A source that is joined to those before it; `place` is that of ON.

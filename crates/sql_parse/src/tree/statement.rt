@@ -13,9 +13,18 @@ pub struct Script {
 /// A statement.
 #[derive(Drop)]
 pub enum Statement {
-    CreateTable { name: Span, columns: Items<Column> },
-    DropTable { name: Span },
-    Copy { name: Span, file: Span, options: Items<CopyOption> },
+    CreateTable {
+        name: Span,
+        columns: Items<Column>,
+    },
+    DropTable {
+        name: Span,
+    },
+    Copy {
+        name: Span,
+        file: Span,
+        options: Items<CopyOption>,
+    },
     Explain(Boxed<Select>),
     Select(Boxed<Select>),
 }
