@@ -52,8 +52,9 @@ tokens_from-step place (suc m) (c ∷ rest) some within front =
 -- a blank begins no name, and is a gap of one byte
 pub blank-no_name : (c : ℕ) → is_blank c ≡ true → is_name_start c ≡ false
 blank-no_name c blank = elim (or_cases (eqb c 32 || eqb c 9) (eqb c 13 || eqb c 10) blank) [
-    inl first ↦ elim (or_cases (eqb c 32) (eqb c 9) first) [ inl space ↦ ap is_name_start (eqb-true c 32 space) | inr tab ↦ ap is_name_start (eqb-true c 9 tab) ]
-  | inr line ↦ elim (or_cases (eqb c 13) (eqb c 10) line) [ inl back ↦ ap is_name_start (eqb-true c 13 back) | inr end ↦ ap is_name_start (eqb-true c 10 end) ] ]
+  | inl first ↦ elim (or_cases (eqb c 32) (eqb c 9) first) [ inl space ↦ ap is_name_start (eqb-true c 32 space) | inr tab ↦ ap is_name_start (eqb-true c 9 tab) ]
+  | inr line ↦ elim (or_cases (eqb c 13) (eqb c 10) line) [ inl back ↦ ap is_name_start (eqb-true c 13 back) | inr end ↦ ap is_name_start (eqb-true c 10 end) ]
+]
 
 pub blank-front : (c : ℕ) (rest : List ℕ) → is_blank c ≡ true → Gap 1 ≡ front_of (c ∷ rest)
 unfolding front_of

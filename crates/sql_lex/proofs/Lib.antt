@@ -7,3 +7,4 @@ pub mod LexedLemmas
 pub mod Parts
 pub mod GapParts
 pub mod CoverLemmas
+pub mod DecimalLemmas

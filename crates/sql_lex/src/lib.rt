@@ -17,8 +17,7 @@ pub use fault::LexFault;
 pub use lexer::lex;
 pub use quotes::quoted_texts;
 pub use token::{Sign, Token, TokenKind, Tokens, Word};
-pub use values::{integer_value, unquoted};
-pub use words::word_of;
+pub use values::{DecimalValue, decimal_value, integer_value, unquoted};
 
 #[cfg(test)]
 mod tests;

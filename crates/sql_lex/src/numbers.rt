@@ -1,7 +1,7 @@
 //! Numbers: digits with at most one point.
 ghost use Rattle.std.specs.Prelude.{◌≡◌, ◌+◌, ◌<◌, ◌≤◌, ◌*◌, ◌^◌, ℕ, MatchOption, true, IsTrue, length, slice_index, nat_lt, Some, None, if◌then◌else◌};
 ghost use Rattle.std.specs.Char.{is_ascii_digit};
-ghost use Rattle.std.specs.Str.Parse.{digits_value};
+ghost use Rattle.std.specs.Str.Parse.{digits_value, digits_value_after};
 ghost use Rattle.sql_lex.specs.Numbers as numbers;
 
 /// The widest decimal, in digits.
@@ -44,7 +44,7 @@ pub fn digits_length(text: &[u8]) -> usize
 }
 
 /// The number of zeros at the front of a text.
-fn zeros_length(text: &[u8]) -> usize
+pub fn zeros_length(text: &[u8]) -> usize
     ensures { result ≡ numbers.zeros_length text.now }
 {
     text.iter().take_while(|byte| **byte == b'0').count()
@@ -85,4 +85,18 @@ pub fn integer_of(digits: &[u8]) -> Option<u128>
         }
     }
     Some(value)
+}
+
+/// The number that digits write when they follow those of `value`.
+pub fn digits_behind(value: u128, digits: &[u8]) -> u128
+    requires digits { (k : ℕ) → k < length digits.now → is_ascii_digit (slice_index digits.now k) ≡ true }
+    requires room { (value + 1) * 10 ^ length digits.now ≤ 2 ^ 127 }
+    ensures number { result ≡ digits_value_after 10 value digits.now }
+    ensures small { result + 1 ≤ (value + 1) * 10 ^ length digits.now }
+{
+    let mut number = value;
+    for byte in digits {
+        number = number * 10 + u128::from(*byte - b'0');
+    }
+    number
 }

@@ -181,6 +181,30 @@ fn values_of_tokens(rt: HostRuntime) -> Result<(), Fail> {
     for (text, expected) in integers {
         assert_eq!(rt; integer_value(text.as_bytes()), expected);
     }
+    let decimals = [
+        ("1.", Some((1, 0, 1))),
+        ("00.", Some((0, 0, 1))),
+        ("0.05", Some((5, 2, 2))),
+        ("0012.50", Some((1250, 2, 4))),
+        (".5", Some((5, 1, 1))),
+        (
+            ".99999999999999999999999999999999999999",
+            Some((99_999_999_999_999_999_999_999_999_999_999_999_999, 38, 38)),
+        ),
+        ("1.00000000000000000000000000000000000000", None),
+        ("12", None),
+        (".", None),
+        ("1.2.3", None),
+        ("", None),
+    ];
+    for (text, expected) in decimals {
+        let value = decimal_value(text.as_bytes());
+        assert_eq!(rt;
+            value.map(|value| (value.digits, value.scale, value.width)),
+            expected,
+            "at {text}"
+        );
+    }
     let quoted = [
         ("''", ""),
         ("'it''s'", "it's"),

@@ -17,6 +17,14 @@ fn spelled_or(name: &[u8], letters: &[u8], word: Word, otherwise: Option<Word>) 
     }
 }
 
+/// The first of these words that a name is.
+macro_rules! spelled {
+    ($name:expr;) => { None };
+    ($name:expr; $letters:literal $word:ident $(, $more:literal $others:ident)*) => {
+        spelled_or($name, $letters, Word::$word, spelled!($name; $($more $others),*))
+    };
+}
+
 /// The reserved word that a name is, without regard to ASCII case.
 #[tactic(auto, unfolding(crate::specs::Words::word_spelled))]
 pub fn word_of(name: &[u8]) -> Option<Word>
@@ -24,128 +32,24 @@ pub fn word_of(name: &[u8]) -> Option<Word>
 {
     let first = name.first()?.to_ascii_lowercase();
     match first {
-        b'a' => spelled_or(
-            name,
-            b"all",
-            Word::All,
-            spelled_or(
-                name,
-                b"and",
-                Word::And,
-                spelled_or(
-                    name,
-                    b"as",
-                    Word::As,
-                    spelled_or(name, b"asc", Word::Asc, None),
-                ),
-            ),
-        ),
-        b'b' => spelled_or(
-            name,
-            b"between",
-            Word::Between,
-            spelled_or(name, b"by", Word::By, None),
-        ),
-        b'c' => spelled_or(
-            name,
-            b"copy",
-            Word::Copy,
-            spelled_or(
-                name,
-                b"create",
-                Word::Create,
-                spelled_or(name, b"cross", Word::Cross, None),
-            ),
-        ),
-        b'd' => spelled_or(
-            name,
-            b"desc",
-            Word::Desc,
-            spelled_or(
-                name,
-                b"distinct",
-                Word::Distinct,
-                spelled_or(name, b"drop", Word::Drop, None),
-            ),
-        ),
-        b'e' => spelled_or(
-            name,
-            b"except",
-            Word::Except,
-            spelled_or(name, b"explain", Word::Explain, None),
-        ),
-        b'f' => spelled_or(
-            name,
-            b"false",
-            Word::False,
-            spelled_or(name, b"from", Word::From, None),
-        ),
-        b'g' => spelled_or(name, b"group", Word::Group, None),
-        b'h' => spelled_or(name, b"having", Word::Having, None),
-        b'i' => spelled_or(
-            name,
-            b"in",
-            Word::In,
-            spelled_or(
-                name,
-                b"inner",
-                Word::Inner,
-                spelled_or(
-                    name,
-                    b"intersect",
-                    Word::Intersect,
-                    spelled_or(name, b"is", Word::Is, None),
-                ),
-            ),
-        ),
-        b'j' => spelled_or(name, b"join", Word::Join, None),
-        b'l' => spelled_or(
-            name,
-            b"left",
-            Word::Left,
-            spelled_or(
-                name,
-                b"like",
-                Word::Like,
-                spelled_or(name, b"limit", Word::Limit, None),
-            ),
-        ),
-        b'n' => spelled_or(
-            name,
-            b"not",
-            Word::Not,
-            spelled_or(name, b"null", Word::Null, None),
-        ),
-        b'o' => spelled_or(
-            name,
-            b"offset",
-            Word::Offset,
-            spelled_or(
-                name,
-                b"on",
-                Word::On,
-                spelled_or(
-                    name,
-                    b"or",
-                    Word::Or,
-                    spelled_or(
-                        name,
-                        b"order",
-                        Word::Order,
-                        spelled_or(name, b"outer", Word::Outer, None),
-                    ),
-                ),
-            ),
-        ),
-        b's' => spelled_or(name, b"select", Word::Select, None),
-        b't' => spelled_or(
-            name,
-            b"table",
-            Word::Table,
-            spelled_or(name, b"true", Word::True, None),
-        ),
-        b'u' => spelled_or(name, b"union", Word::Union, None),
-        b'w' => spelled_or(name, b"where", Word::Where, None),
+        b'a' => spelled!(name; b"all" All, b"and" And, b"as" As, b"asc" Asc),
+        b'b' => spelled!(name; b"between" Between, b"by" By),
+        b'c' => spelled!(name; b"copy" Copy, b"create" Create, b"cross" Cross),
+        b'd' => spelled!(name; b"desc" Desc, b"distinct" Distinct, b"drop" Drop),
+        b'e' => spelled!(name; b"except" Except, b"explain" Explain),
+        b'f' => spelled!(name; b"false" False, b"from" From),
+        b'g' => spelled!(name; b"group" Group),
+        b'h' => spelled!(name; b"having" Having),
+        b'i' => spelled!(name; b"in" In, b"inner" Inner, b"intersect" Intersect, b"is" Is),
+        b'j' => spelled!(name; b"join" Join),
+        b'l' => spelled!(name; b"left" Left, b"like" Like, b"limit" Limit),
+        b'n' => spelled!(name; b"not" Not, b"null" Null),
+        b'o' =>
+            spelled!(name; b"offset" Offset, b"on" On, b"or" Or, b"order" Order, b"outer" Outer),
+        b's' => spelled!(name; b"select" Select),
+        b't' => spelled!(name; b"table" Table, b"true" True),
+        b'u' => spelled!(name; b"union" Union),
+        b'w' => spelled!(name; b"where" Where),
         _ => None,
     }
 }

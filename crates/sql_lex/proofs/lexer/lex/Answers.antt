@@ -57,6 +57,6 @@ new-requires c = within-tokens c.args.script.now c.loop-at.list.items (step-end 
 
 pub loop-at-preserved-then-is_blank : goal.loop-at-preserved-then-is_blank
 loop-at-preserved-then-is_blank c = record {
-    within = omega arith;
-    so_far = step-blank c.args.script.now c.loop-at.at c.loop-at.list.items _ c.loop-at-test.true (cc) c.loop-at.invariant.so_far;
-  }
+  within = omega arith;
+  so_far = step-blank c.args.script.now c.loop-at.at c.loop-at.list.items _ c.loop-at-test.true (cc) c.loop-at.invariant.so_far;
+}
