@@ -52,7 +52,7 @@ literal = token integer_class (λ x. l.Integer (span_of x)) or token decimal_cla
 
 -- const = [ "-" ] literal
 unfoldable pub constant : Form Constant
-constant = (λ negative literal. record { negative = negative; literal = literal }) <$> has (sign s.Minus) <*> literal
+constant = (λ minus literal. record { minus = minus; literal = literal }) <$> optional (sign s.Minus) <*> literal
 
 -- name | name "." name
 unfoldable pub column_name : Form ColumnName

@@ -316,16 +316,15 @@ impl<'a> Cursor<'a> {
         found
     }
 
-    /// Takes this sign if it comes next, and says whether it did.
-    pub(crate) fn skip_sign(&mut self, sign: Sign) -> bool
-        ensures has { read (readers 0) (form.has (form.sign sign)) self.old ≡ Ok (result, self.new) }
+    /// Takes this sign if it comes next, and says where it stood.
+    pub(crate) fn optional_sign(&mut self, sign: Sign) -> Option<usize>
+        ensures optional { read (readers 0) (form.optional (form.sign sign)) self.old ≡ Ok (result, self.new) }
         ensures shrinks { length self.new ≤ length self.old }
     {
-        let found = self.at_sign(sign);
-        if found {
-            self.shift();
+        if !self.at_sign(sign) {
+            return None;
         }
-        found
+        Some(self.take().start)
     }
 
     /// The cursor behind the next token.

@@ -35,9 +35,9 @@ pub(crate) fn constant(cursor: &mut Cursor<'_>, depth: u8) -> Result<Constant, F
     ensures gives { Gives (read (readers depth) form.constant cursor.old) result cursor.new }
     ensures shrinks { length cursor.new ≤ length cursor.old }
 {
-    let negative = cursor.skip_sign(Sign::Minus);
+    let minus = cursor.optional_sign(Sign::Minus);
     let literal = literal(cursor, depth)?;
-    Ok(Constant { negative, literal })
+    Ok(Constant { minus, literal })
 }
 
 #[tactic(auto, unfolding(crate::specs::Expressions::column_name))]

@@ -19,10 +19,10 @@ pub enum Literal {
     False(Span),
 }
 
-/// A literal with or without a minus before it.
+/// A literal, and the place of the minus before it, if there is one.
 #[derive(Clone, Copy, Debug, PartialEq, Eq)]
 pub struct Constant {
-    pub negative: bool,
+    pub minus: Option<usize>,
     pub literal: Literal,
 }
 
