@@ -35,9 +35,9 @@ front_is words table columns h =
     let copied : f.0 ≡ codes "COPY" ∷ c.0.0 ∷ codes "FROM" ∷ [] = behind_is (codes "COPY") f.0 i.0 i.1 ∙ ap (λ (w : Words). codes "COPY" ∷ w) named in
     let ended : e.0.1 ≡ codes ";" ∷ codes "COPY" ∷ c.0.0 ∷ codes "FROM" ∷ [] = behind_is (codes ";") e.0.1 f.0 f.1 ∙ ap (λ (w : Words). codes ";" ∷ w) copied in
     let declared : d.0 ≡ joined (map column_words e.0.0) ++ codes ")" ∷ codes ";" ∷ codes "COPY" ∷ c.0.0 ∷ codes "FROM" ∷ [] =
-      (columns_are d.0 e.0.0 e.0.1 e.1).are ∙ ap (λ (w : Words). joined (map column_words e.0.0) ++ codes ")" ∷ w) ended in
+    (columns_are d.0 e.0.0 e.0.1 e.1).are ∙ ap (λ (w : Words). joined (map column_words e.0.0) ++ codes ")" ∷ w) ended in
     let opened : c.0.1 ≡ codes "(" ∷ joined (map column_words e.0.0) ++ codes ")" ∷ codes ";" ∷ codes "COPY" ∷ c.0.0 ∷ codes "FROM" ∷ [] =
-      behind_is (codes "(") c.0.1 d.0 d.1 ∙ ap (λ (w : Words). codes "(" ∷ w) declared in
+    behind_is (codes "(") c.0.1 d.0 d.1 ∙ ap (λ (w : Words). codes "(" ∷ w) declared in
     let p : ◌≡◌ {A = List ℕ × List Column} (c.0.0, e.0.0) (table, columns) = same_Some (c.0.0, e.0.0) (table, columns) l.2 in
     behind_is (codes "CREATE") words a.0 a.1 ∙ ap (λ (w : Words). codes "CREATE" ∷ w) (behind_is (codes "TABLE") a.0 b.0 b.1 ∙ ap (λ (w : Words). codes "TABLE" ∷ w) (first_is b.0 c.0 c.1 ∙ ap (λ (w : Words). c.0.0 ∷ w) opened))
     ∙ ap (λ (q : List ℕ × List Column). codes "CREATE" ∷ codes "TABLE" ∷ q.0 ∷ codes "(" ∷ joined (map column_words q.1) ++ codes ")" ∷ codes ";" ∷ codes "COPY" ∷ q.0 ∷ codes "FROM" ∷ []) p
@@ -92,7 +92,7 @@ back_is table words q h =
     let c = then_some (names_of b.0) _ q b.2 in
     let d = then_some (filter_of table c.0.1) _ q c.2 in
     let chosen : b.0 ≡ joined (map name_words c.0.0) ++ codes "FROM" ∷ test_words table d.0 =
-      (names_are b.0 c.0.0 c.0.1 c.1).are ∙ ap (λ (w : Words). joined (map name_words c.0.0) ++ codes "FROM" ∷ w) (filter_is table c.0.1 d.0 d.1) in
+    (names_are b.0 c.0.0 c.0.1 c.1).are ∙ ap (λ (w : Words). joined (map name_words c.0.0) ++ codes "FROM" ∷ w) (filter_is table c.0.1 d.0 d.1) in
     behind_is (codes ";") words a.0 a.1 ∙ ap (λ (w : Words). codes ";" ∷ w) (behind_is (codes "SELECT") a.0 b.0 b.1 ∙ ap (λ (w : Words). codes "SELECT" ∷ w) chosen)
     ∙ ap (asked_words table) (same_Some (c.0.0, d.0.0, d.0.1, d.0.2) q d.2)
 
@@ -112,12 +112,13 @@ parts_are (front ∷ file ∷ back ∷ more ∷ parts) f h = absurd (none-some f
 parts_are (front ∷ file ∷ back ∷ []) f h =
     let a = then_some (front_of (words_in front)) _ f h in
     let b = then_some (back_of a.0.0 (words_in back)) _ f a.2 in
-    let same = same_Some _ f b.2 in
-    ( front
-    , back
-    , ap (λ (g : Form). front ∷ g.file ∷ back ∷ []) same
-    , front_is (words_in front) a.0.0 a.0.1 a.1 ∙ ap front_words same
-    , back_is a.0.0 (words_in back) b.0 b.1 ∙ ap back_words same )
+    let same = same_Some _ f b.2 in (
+      front,
+      back,
+      ap (λ (g : Form). front ∷ g.file ∷ back ∷ []) same,
+      front_is (words_in front) a.0.0 a.0.1 a.1 ∙ ap front_words same,
+      back_is a.0.0 (words_in back) b.0 b.1 ∙ ap back_words same,
+    )
 
 pub form_is : (bytes : List ℕ) (f : Form) → form_of bytes ≡ Some f → IsSpelled f bytes
 form_is bytes f h =

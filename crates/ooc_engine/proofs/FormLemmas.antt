@@ -49,7 +49,7 @@ pub type_is : (word : List ℕ) (kind : SqlType) → type_of word ≡ Some kind 
 type_is word kind h =
     ⊎_elim (λ (p : (bytes_eq word (codes "INTEGER") ≡ true) × (Integer ≡ kind)). equal_bytes word (codes "INTEGER") p.0 ∙ ap type_text p.1)
     (λ (p : (bytes_eq word (codes "INTEGER") ≡ false) × (cond (bytes_eq word (codes "VARCHAR")) (Some Varchar) None ≡ Some kind)).
-      let q = cond_some (bytes_eq word (codes "VARCHAR")) Varchar kind p.1 in equal_bytes word (codes "VARCHAR") q.0 ∙ ap type_text q.1)
+    let q = cond_some (bytes_eq word (codes "VARCHAR")) Varchar kind p.1 in equal_bytes word (codes "VARCHAR") q.0 ∙ ap type_text q.1)
     (cases_of (bytes_eq word (codes "INTEGER")) Integer (cond (bytes_eq word (codes "VARCHAR")) (Some Varchar) None) kind h)
 
 pub type_same : (kind : SqlType) → Rattle.ooc_engine.specs.ScriptText.has_bytes (type_text kind) ≡ true → type_of (type_text kind) ≡ Some kind
@@ -64,10 +64,10 @@ pub sign_is : (word : List ℕ) (sign : Sign) → sign_of word ≡ Some sign →
 sign_is word sign h =
     ⊎_elim (λ (p : (bytes_eq word (codes "=") ≡ true) × (Equal ≡ sign)). equal_bytes word (codes "=") p.0 ∙ ap sign_text p.1)
     (λ (p : (bytes_eq word (codes "=") ≡ false) × (cond (bytes_eq word (codes "<")) (Some Less) (cond (bytes_eq word (codes ">")) (Some Greater) None) ≡ Some sign)).
-      ⊎_elim (λ (q : (bytes_eq word (codes "<") ≡ true) × (Less ≡ sign)). equal_bytes word (codes "<") q.0 ∙ ap sign_text q.1)
-      (λ (q : (bytes_eq word (codes "<") ≡ false) × (cond (bytes_eq word (codes ">")) (Some Greater) None ≡ Some sign)).
-        let r = cond_some (bytes_eq word (codes ">")) Greater sign q.1 in equal_bytes word (codes ">") r.0 ∙ ap sign_text r.1)
-      (cases_of (bytes_eq word (codes "<")) Less (cond (bytes_eq word (codes ">")) (Some Greater) None) sign p.1))
+    ⊎_elim (λ (q : (bytes_eq word (codes "<") ≡ true) × (Less ≡ sign)). equal_bytes word (codes "<") q.0 ∙ ap sign_text q.1)
+    (λ (q : (bytes_eq word (codes "<") ≡ false) × (cond (bytes_eq word (codes ">")) (Some Greater) None ≡ Some sign)).
+    let r = cond_some (bytes_eq word (codes ">")) Greater sign q.1 in equal_bytes word (codes ">") r.0 ∙ ap sign_text r.1)
+    (cases_of (bytes_eq word (codes "<")) Less (cond (bytes_eq word (codes ">")) (Some Greater) None) sign p.1))
     (cases_of (bytes_eq word (codes "=")) Equal (cond (bytes_eq word (codes "<")) (Some Less) (cond (bytes_eq word (codes ">")) (Some Greater) None)) sign h)
 
 pub sign_same : (sign : Sign) → sign_of (sign_text sign) ≡ Some sign
@@ -104,12 +104,12 @@ more_names : (name : List ℕ) (left : Words) (names : List (List ℕ)) (rest : 
 more_names name left names rest others = record {
   some = λ none. cc;
   are = ap (λ l. name ∷ codes "," ∷ l) others.are
-    ∙ ap (λ (j : Words). j ++ codes "FROM" ∷ rest) (sym (joined-cons (name_words name) (map name_words names) (λ none. others.some (map_none name_words names none))));
+      ∙ ap (λ (j : Words). j ++ codes "FROM" ∷ rest) (sym (joined-cons (name_words name) (map name_words names) (λ none. others.some (map_none name_words names none))));
 }
 
 names_step : (name sign : List ℕ) (left : Words) (names : List (List ℕ)) (rest : Words) → ((ns : List (List ℕ)) (r : Words) → names_of left ≡ Some (ns, r) → AreNames left ns r)
     → ((bytes_eq sign (codes "FROM") ≡ true) × (◌≡◌ {A = List (List ℕ) × Words} (name ∷ [], left) (names, rest)))
-      ⊎ ((bytes_eq sign (codes "FROM") ≡ false) × (cond (bytes_eq sign (codes ",")) (option_map {U = List (List ℕ) × Words} (λ (p : List (List ℕ) × Words). (name ∷ p.0, p.1)) (names_of left)) None ≡ Some (names, rest)))
+    ⊎ ((bytes_eq sign (codes "FROM") ≡ false) × (cond (bytes_eq sign (codes ",")) (option_map {U = List (List ℕ) × Words} (λ (p : List (List ℕ) × Words). (name ∷ p.0, p.1)) (names_of left)) None ≡ Some (names, rest)))
     → AreNames (name ∷ sign ∷ left) names rest
 names_step name sign left names rest next (inl (is, same)) =
     let one : AreNames (name ∷ codes "FROM" ∷ left) (name ∷ []) left = record { some = λ none. cc; are = refl } in
@@ -142,12 +142,12 @@ more_columns : (name : List ℕ) (kind : SqlType) (left : Words) (columns : List
 more_columns name kind left columns rest others = record {
   some = λ none. cc;
   are = ap (λ l. name ∷ type_text kind ∷ codes "," ∷ l) others.are
-    ∙ ap (λ (j : Words). j ++ codes ")" ∷ rest) (sym (joined-cons (column_words (column_named name kind)) (map column_words columns) (λ none. others.some (map_none column_words columns none))));
+      ∙ ap (λ (j : Words). j ++ codes ")" ∷ rest) (sym (joined-cons (column_words (column_named name kind)) (map column_words columns) (λ none. others.some (map_none column_words columns none))));
 }
 
 columns_step : (name sign : List ℕ) (kind : SqlType) (left : Words) (columns : List Column) (rest : Words) → ((cs : List Column) (r : Words) → columns_of left ≡ Some (cs, r) → AreColumns left cs r)
     → ((bytes_eq sign (codes ")") ≡ true) × (◌≡◌ {A = List Column × Words} (column_named name kind ∷ [], left) (columns, rest)))
-      ⊎ ((bytes_eq sign (codes ")") ≡ false) × (cond (bytes_eq sign (codes ",")) (option_map {U = List Column × Words} (λ (p : List Column × Words). (column_named name kind ∷ p.0, p.1)) (columns_of left)) None ≡ Some (columns, rest)))
+    ⊎ ((bytes_eq sign (codes ")") ≡ false) × (cond (bytes_eq sign (codes ",")) (option_map {U = List Column × Words} (λ (p : List Column × Words). (column_named name kind ∷ p.0, p.1)) (columns_of left)) None ≡ Some (columns, rest)))
     → AreColumns (name ∷ type_text kind ∷ sign ∷ left) columns rest
 columns_step name sign kind left columns rest next (inl (is, same)) =
     let one : AreColumns (name ∷ type_text kind ∷ codes ")" ∷ left) (column_named name kind ∷ []) left = record { some = λ none. cc; are = refl } in

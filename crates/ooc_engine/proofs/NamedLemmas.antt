@@ -67,8 +67,8 @@ pub tables-set : (ts : List NamedTable) (i : ℕ) (k : List ℕ) (v : Table) (at
     → tables_of (set ts i (renewed k v)) ≡ insert (tables_of ts) k v
 tables-set ts i k v at h is named none =
     same_map nat_list_cmp_total (slice_cmp-IsAntisymmetric nat_cmp-IsAntisymmetric) _ _ (λ q.
-      get-look (set ts i (renewed k v)) q ∙ look-set ts i k v q at h is named none
-      ∙ sym (get-insert nat_list_cmp_total (tables_of ts) k v q ∙ ap (λ b. cond b (Some v) (get (tables_of ts) q)) (eq_names q k) ∙ ap (cond (bytes_eq q k) (Some v)) (get-look ts q)))
+    get-look (set ts i (renewed k v)) q ∙ look-set ts i k v q at h is named none
+    ∙ sym (get-insert nat_list_cmp_total (tables_of ts) k v q ∙ ap (λ b. cond b (Some v) (get (tables_of ts) q)) (eq_names q k) ∙ ap (cond (bytes_eq q k) (Some v)) (get-look ts q)))
 
 map-push : (ts : List NamedTable) (t : NamedTable) → map entry_of (ts ++ t ∷ []) ≡ map entry_of ts ++ entry_of t ∷ []
 map-push [] t = refl

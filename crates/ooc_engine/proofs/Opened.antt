@@ -47,7 +47,7 @@ module _ (words : List (List ℕ)) (held : Held) where
       pub unparsed_opened : (seen : List ℕ) (e : FormStop) → seen ≡ bytes → e ≡ stop.NotBuilt → IsParsed seen (Err e) → IsOpened words held (Err (script_refused NotBuilt)) ⊎ MayCut (script_refused NotBuilt)
       unparsed_opened seen e same is parsed =
           let none : (statements : List Statement) → IsScript bytes statements → ⊥ =
-            subst (λ (b : List ℕ). (statements : List Statement) → IsScript b statements → ⊥) same (subst (λ (x : FormStop). IsParsed seen (Err x)) is parsed) in
+          subst (λ (b : List ℕ). (statements : List Statement) → IsScript b statements → ⊥) same (subst (λ (x : FormStop). IsParsed seen (Err x)) is parsed) in
           inl (with_bytes (Err NotBuilt) (refl, none))
 
 -- a script with more bytes than the form allows

@@ -188,7 +188,14 @@ pub fn run_statement<F: Files>(
     let _ = settings;
     match statement {
         Statement::Create { table, columns } => create(alloc, number, table, columns, catalog),
-        Statement::Copy { table, file } => copy(alloc, number, table, file.as_str(), catalog, files),
+        Statement::Copy { table, file } => copy(
+            alloc,
+            number,
+            table,
+            file.as_str(),
+            catalog,
+            files,
+        ),
         Statement::Select {
             table,
             names,

@@ -4,7 +4,9 @@ ghost use Rattle.ooc_engine.specs.Ends.{IsParsed, result_items};
 ghost use Rattle.ooc_engine.specs.ScriptText.{is_formed, statements_of, most};
 ghost use Rattle.ooc_engine.specs.FormReading.{Reads, result_now, result_pair, result_rest, result_head, behind, result_test, result_asked, first, nothing, type_of, sign_of, columns_of, names_of, front_of, filter_of, back_of, form_of_parts, form_of};
 
-use crate::naming::{are_columns, has_integer, have_columns, is_count, is_file_name, is_name, is_number, number_of};
+use crate::naming::{
+    are_columns, has_integer, have_columns, is_count, is_file_name, is_name, is_number, number_of,
+};
 use crate::statement::{FileName, Filter, Names, Sign, Statement};
 use crate::words::{parts_at_quotes, words_in};
 use ooc_types::{Column, OutOfMemory, Schema, SqlType, Text};
@@ -227,9 +229,14 @@ fn is_formed(form: &Form) -> bool
     ensures { result ≡ is_formed form.now }
 {
     let columns = form.columns.as_slice();
-    let table = is_name(form.table.as_bytes()) && is_count(columns.len()) && are_columns(columns) && is_file_name(form.file.as_bytes());
+    let table = is_name(form.table.as_bytes())
+        && is_count(columns.len())
+        && are_columns(columns)
+        && is_file_name(form.file.as_bytes());
     let names = form.names.as_slice();
-    let asked = is_count(names.len()) && have_columns(columns, names) && has_integer(columns, form.column.as_bytes());
+    let asked = is_count(names.len())
+        && have_columns(columns, names)
+        && has_integer(columns, form.column.as_bytes());
     table && asked && is_number(form.digits.as_bytes())
 }
 

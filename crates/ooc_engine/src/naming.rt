@@ -40,8 +40,7 @@ fn are_digits(text: &[u8]) -> bool
 fn are_of_files(text: &[u8]) -> bool
     ensures { result ≡ list_all is_of_files text.now }
 {
-    text.iter()
-        .all(|byte| is_small(*byte) || is_digit(*byte) || *byte == b'.' || *byte == b'_')
+    text.iter().all(|byte| is_small(*byte) || is_digit(*byte) || *byte == b'.' || *byte == b'_')
 }
 
 /// 1 to 63 letters from a to z, and no reserved word.
@@ -129,7 +128,9 @@ pub fn is_count(count: usize) -> bool
 pub fn have_columns(columns: &[Column], names: &[Text]) -> bool
     ensures { result ≡ have_columns columns.now names.now }
 {
-    names.iter().all(|name| has_column(columns, name.as_bytes()))
+    names
+        .iter()
+        .all(|name| has_column(columns, name.as_bytes()))
 }
 
 fn are_plain(columns: &[Column]) -> bool

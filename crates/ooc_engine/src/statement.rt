@@ -107,7 +107,17 @@ pub struct Filter {
 /// A statement.
 #[derive(Debug, Drop)]
 pub enum Statement {
-    Create { table: Text, columns: Schema },
-    Copy { table: Text, file: FileName },
-    Select { table: Text, names: Names, filter: Filter },
+    Create {
+        table: Text,
+        columns: Schema,
+    },
+    Copy {
+        table: Text,
+        file: FileName,
+    },
+    Select {
+        table: Text,
+        names: Names,
+        filter: Filter,
+    },
 }

@@ -10,7 +10,8 @@ use std::test::Fail;
 use std::thread::Threads;
 
 /// A script over one file: the rows `1,ann`, `2,bob` and `3,cy`.
-const SCRIPT: &str = "CREATE TABLE t (id INTEGER, name VARCHAR); COPY t FROM 't.csv'; SELECT name FROM t WHERE id = 2;";
+const SCRIPT: &str =
+    "CREATE TABLE t (id INTEGER, name VARCHAR); COPY t FROM 't.csv'; SELECT name FROM t WHERE id = 2;";
 
 const ROWS: &str = "id,name\n1,ann\n2,bob\n3,cy\n";
 
@@ -29,10 +30,16 @@ fn files(
 ) -> Result<MemFiles, Fail> {
     let mut named = Vec::new(alloc);
     if let Some(script) = script {
-        named.push((String::from_str(alloc, "s.sql")?, Vec::from_slice(alloc, script.as_bytes())?))?;
+        named.push((
+            String::from_str(alloc, "s.sql")?,
+            Vec::from_slice(alloc, script.as_bytes())?,
+        ))?;
     }
     if let Some(csv) = csv {
-        named.push((String::from_str(alloc, "t.csv")?, Vec::from_slice(alloc, csv.as_bytes())?))?;
+        named.push((
+            String::from_str(alloc, "t.csv")?,
+            Vec::from_slice(alloc, csv.as_bytes())?,
+        ))?;
     }
     Ok(MemFiles::new_files(named, failing))
 }
@@ -212,10 +219,20 @@ static CASES: [(&str, &str, u8, &str); 41] = [
         "name,id,name\ncy,3,cy\n\n",
     ),
     // Files.
-    (SCRIPT, "id,name\n1,ann\n2,bob\n2,bob\n", 0, "name\nbob\nbob\n\n"),
+    (
+        SCRIPT,
+        "id,name\n1,ann\n2,bob\n2,bob\n",
+        0,
+        "name\nbob\nbob\n\n",
+    ),
     (SCRIPT, "id,name\n", 0, "name\n\n"),
     (SCRIPT, "another header\n2,bob\n", 0, "name\nbob\n\n"),
-    (SCRIPT, "id,name\n2,null0123456z\n", 0, "name\nnull0123456z\n\n"),
+    (
+        SCRIPT,
+        "id,name\n2,null0123456z\n",
+        0,
+        "name\nnull0123456z\n\n",
+    ),
     (SCRIPT, "id,name\n1,ann\n2,bob,x\n", 1, NOT_A_FILE),
     (SCRIPT, "id,name\n1,ann\n2\n", 1, NOT_A_FILE),
     (SCRIPT, "id,name\n1,ann\n2,bob", 1, NOT_A_FILE),
@@ -319,7 +336,8 @@ fn rows_go_on_over_several_pages(rt: HostRuntime) -> Result<(), Fail> {
         }
     }
     out.push('\n')?;
-    let script = "CREATE TABLE t (id INTEGER, name VARCHAR); COPY t FROM 't.csv'; SELECT name FROM t WHERE id > 9;";
+    let script =
+        "CREATE TABLE t (id INTEGER, name VARCHAR); COPY t FROM 't.csv'; SELECT name FROM t WHERE id > 9;";
     let mut files = files(alloc, Some(script), Some(csv.as_str()), Vec::new(alloc))?;
     let mut sink = MemSink::new_sink(alloc, Vec::new(alloc), 65536)?;
     let status = run(&rt, alloc, &["s.sql"], &mut files, &mut sink)?;

@@ -55,7 +55,7 @@ fn push_quoted(bytes: &[u8], into: &mut Vec<u8>) -> Result<(), OutOfMemory>
     Ok(())
 }
 
-// The text or name as a field.
+/// Appends a text or name as a field. A failed call leaves what was there, with a part of the field behind it at most.
 pub fn push_field(bytes: &[u8], into: &mut Vec<u8>) -> Result<(), OutOfMemory>
     ensures ok { OnOk result (into.new.items ≡ into.old.items ++ field_text bytes.now) }
     ensures err { OnErr result (KeepsFront into.old.items into.new.items) }

@@ -16,7 +16,7 @@ returns-in-Ok-clause-complete g c files_stayed sink_stayed =
     (λ failed. stayed_not sink_stayed (c.run_statements.ensures.cause.rose failed))
     (λ failed. stayed_not_after c.in-Ok.ensures.later c.run_statements.ensures.later files_stayed (c.run_statements.ensures.read_fault failed))
     (says_run (g.F.Files.holds c.args.files.now) (words_of c.args.words.now) c.in-Ok.settings c.in-Ok.statements.items (g.K.Sink.written c.args.out.now) (g.K.Sink.written c.run_statements.new.out) c.run_statements.result
-      c.in-Ok.ensures.opened (rw (c.in-Ok.ensures.holds, c.as_slice.ensures.value, c.new_catalog-catalog.ensures) at c.run_statements.ensures.says))
+    c.in-Ok.ensures.opened (rw (c.in-Ok.ensures.holds, c.as_slice.ensures.value, c.new_catalog-catalog.ensures) at c.run_statements.ensures.says))
 
 pub returns-in-Err-clause-says : goal.returns-in-Err-clause-says
 returns-in-Err-clause-says g c =

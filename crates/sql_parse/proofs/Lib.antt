@@ -1,0 +1,15 @@
+mod Sets
+mod Firsts
+mod Laws
+mod ManyLaws
+mod Forms
+mod Lasts
+mod Tame
+mod Grown
+mod Rules
+mod Exact
+mod Turning
+mod Deeper
+mod Lists
+mod Scripts
+mod Unique

@@ -1,0 +1,425 @@
+//! Expressions: a function for each rule of the grammar, by its name. `depth` is how many levels may still nest.
+ghost use Rattle.std.specs.Prelude.{◌≤◌, ◌<◌, length, IsOk, Ok};
+ghost use Rattle.sql_parse.specs.Form.{many, an_expr, a_neg, a_unary, an_argument};
+ghost use Rattle.sql_parse.specs.Reading.{read, opened, and_then};
+ghost use Rattle.sql_parse.specs.Nesting.{readers};
+ghost use Rattle.sql_parse.specs.Whole.{Gives};
+ghost use Rattle.sql_parse.specs.Expressions as form;
+
+use crate::cursor::Cursor;
+use crate::fault::Fault;
+use crate::leaves::{compare_sign, literal, sum_sign, term_sign};
+use crate::looks::{
+    at_and, at_comparison, at_group, at_like, at_named, at_null_test, at_one_of, at_or,
+    at_range_test, at_sum_sign, at_term_sign,
+};
+use crate::nodes::{chain, either, every};
+use crate::predicates::{like, null_test, one_of};
+use crate::tree::{Argument, ColumnName, Expr, Link, Operand};
+use sql_lex::{Sign, Word};
+use sqlite_items::{Boxed, Items};
+use std::alloc::Global;
+
+/// The expression behind the token that opens a level.
+#[cycle(expr)]
+fn nested_expr(alloc: Global, cursor: &mut Cursor<'_>, depth: u8) -> Result<Boxed<Expr>, Fault>
+    ensures gives { Gives (opened (readers depth an_expr) cursor.old) result cursor.new }
+    ensures shrinks { length cursor.new ≤ length cursor.old }
+{
+    if depth == 0 {
+        return Err(Fault::TooDeep);
+    }
+    cursor.shift();
+    expr(alloc, cursor, depth - 1)
+}
+
+/// The negation behind the token that opens a level.
+#[cycle(expr)]
+fn nested_neg(alloc: Global, cursor: &mut Cursor<'_>, depth: u8) -> Result<Boxed<Expr>, Fault>
+    ensures gives { Gives (opened (readers depth a_neg) cursor.old) result cursor.new }
+    ensures shrinks { length cursor.new ≤ length cursor.old }
+{
+    if depth == 0 {
+        return Err(Fault::TooDeep);
+    }
+    cursor.shift();
+    neg(alloc, cursor, depth - 1)
+}
+
+/// The operand of a minus behind the token that opens a level.
+#[cycle(expr)]
+fn nested_unary(alloc: Global, cursor: &mut Cursor<'_>, depth: u8) -> Result<Boxed<Expr>, Fault>
+    ensures gives { Gives (opened (readers depth a_unary) cursor.old) result cursor.new }
+    ensures shrinks { length cursor.new ≤ length cursor.old }
+{
+    if depth == 0 {
+        return Err(Fault::TooDeep);
+    }
+    cursor.shift();
+    unary(alloc, cursor, depth - 1)
+}
+
+/// The argument behind the token that opens a level.
+#[cycle(expr)]
+fn nested_argument(alloc: Global, cursor: &mut Cursor<'_>, depth: u8) -> Result<Argument, Fault>
+    ensures gives { Gives (opened (readers depth an_argument) cursor.old) result cursor.new }
+    ensures shrinks { length cursor.new ≤ length cursor.old }
+{
+    if depth == 0 {
+        return Err(Fault::TooDeep);
+    }
+    cursor.shift();
+    argument(alloc, cursor, depth - 1)
+}
+
+#[cycle(expr)]
+#[tactic(auto, unfolding(crate::specs::Expressions::group))]
+fn group(alloc: Global, cursor: &mut Cursor<'_>, depth: u8) -> Result<Boxed<Expr>, Fault>
+    ensures gives { Gives (read (readers depth) form.group cursor.old) result cursor.new }
+    ensures shrinks { length cursor.new ≤ length cursor.old }
+{
+    if !cursor.at_sign(Sign::LeftParenthesis) {
+        return Err(Fault::Syntax);
+    }
+    let found = nested_expr(alloc, cursor, depth)?;
+    cursor.sign(Sign::RightParenthesis)?;
+    Ok(found)
+}
+
+/// What stands between a function's parentheses.
+#[cycle(expr)]
+#[tactic(auto, unfolding(crate::specs::Expressions::argument))]
+fn argument(alloc: Global, cursor: &mut Cursor<'_>, depth: u8) -> Result<Argument, Fault>
+    ensures gives { Gives (read (readers depth) form.argument cursor.old) result cursor.new }
+    ensures shrinks { length cursor.new ≤ length cursor.old }
+{
+    if cursor.at_sign(Sign::Star) {
+        cursor.shift();
+        return Ok(Argument::Star);
+    }
+    let value = expr(alloc, cursor, depth)?;
+    Ok(Argument::Value(value))
+}
+
+/// A column or a call.
+#[cycle(expr)]
+#[tactic(auto, unfolding(crate::specs::Expressions::named))]
+fn named(alloc: Global, cursor: &mut Cursor<'_>, depth: u8) -> Result<Boxed<Expr>, Fault>
+    ensures gives { Gives (read (readers depth) form.named cursor.old) result cursor.new }
+    ensures shrinks { length cursor.new ≤ length cursor.old }
+{
+    let name = cursor.name()?;
+    if cursor.at_sign(Sign::Dot) {
+        cursor.shift();
+        let column = cursor.name()?;
+        let node = Expr::Column(ColumnName {
+            source: Some(name),
+            name: column,
+        });
+        return Ok(Boxed::new(alloc, node)?);
+    }
+    if cursor.at_sign(Sign::LeftParenthesis) {
+        let argument = nested_argument(alloc, cursor, depth)?;
+        cursor.sign(Sign::RightParenthesis)?;
+        return Ok(Boxed::new(alloc, Expr::Call { name, argument })?);
+    }
+    let node = Expr::Column(ColumnName { source: None, name });
+    Ok(Boxed::new(alloc, node)?)
+}
+
+#[cycle(expr)]
+#[tactic(auto, unfolding(crate::specs::Expressions::atom))]
+fn atom(alloc: Global, cursor: &mut Cursor<'_>, depth: u8) -> Result<Boxed<Expr>, Fault>
+    ensures gives { Gives (read (readers depth) form.atom cursor.old) result cursor.new }
+    ensures shrinks { length cursor.new ≤ length cursor.old }
+{
+    if at_named(cursor) {
+        named(alloc, cursor, depth)
+    } else if at_group(cursor) {
+        group(alloc, cursor, depth)
+    } else {
+        let literal = literal(cursor, depth)?;
+        Ok(Boxed::new(alloc, Expr::Literal(literal))?)
+    }
+}
+
+#[cycle(expr)]
+#[tactic(auto, unfolding(crate::specs::Expressions::unary))]
+fn unary(alloc: Global, cursor: &mut Cursor<'_>, depth: u8) -> Result<Boxed<Expr>, Fault>
+    ensures gives { Gives (read (readers depth) form.unary cursor.old) result cursor.new }
+    ensures shrinks { length cursor.new ≤ length cursor.old }
+{
+    if !cursor.at_sign(Sign::Minus) {
+        return atom(alloc, cursor, depth);
+    }
+    let place = cursor.span().start;
+    let operand = nested_unary(alloc, cursor, depth)?;
+    let node = Expr::Minus { place, operand };
+    Ok(Boxed::new(alloc, node)?)
+}
+
+#[cycle(expr)]
+#[tactic(auto, unfolding(crate::specs::Expressions::term_link))]
+fn term_link(alloc: Global, cursor: &mut Cursor<'_>, depth: u8) -> Result<Link, Fault>
+    ensures gives { Gives (read (readers depth) form.term_link cursor.old) result cursor.new }
+    ensures shrinks { length cursor.new ≤ length cursor.old }
+    ensures falls { IsOk result → length cursor.new < length cursor.old }
+{
+    let (sign, place) = term_sign(cursor, depth)?;
+    let right = unary(alloc, cursor, depth)?;
+    Ok(Link { place, sign, right })
+}
+
+/// As many as come.
+#[cycle(expr)]
+fn term_links(alloc: Global, cursor: &mut Cursor<'_>, depth: u8) -> Result<Items<Link>, Fault>
+    ensures gives { Gives (read (readers depth) (many form.term_link) cursor.old) result cursor.new }
+    ensures shrinks { length cursor.new ≤ length cursor.old }
+{
+    let mut found = Items::new(alloc);
+    'turns: while at_term_sign(cursor) {
+        let next = term_link(alloc, cursor, depth)?;
+        found.push(next)?;
+    }
+    Ok(found)
+}
+
+#[cycle(expr)]
+#[tactic(auto, unfolding(crate::specs::Expressions::term))]
+fn term(alloc: Global, cursor: &mut Cursor<'_>, depth: u8) -> Result<Boxed<Expr>, Fault>
+    ensures gives { Gives (read (readers depth) form.term cursor.old) result cursor.new }
+    ensures shrinks { length cursor.new ≤ length cursor.old }
+{
+    let first = unary(alloc, cursor, depth)?;
+    let links = term_links(alloc, cursor, depth)?;
+    Ok(chain(alloc, first, links)?)
+}
+
+#[cycle(expr)]
+#[tactic(auto, unfolding(crate::specs::Expressions::sum_link))]
+fn sum_link(alloc: Global, cursor: &mut Cursor<'_>, depth: u8) -> Result<Link, Fault>
+    ensures gives { Gives (read (readers depth) form.sum_link cursor.old) result cursor.new }
+    ensures shrinks { length cursor.new ≤ length cursor.old }
+    ensures falls { IsOk result → length cursor.new < length cursor.old }
+{
+    let (sign, place) = sum_sign(cursor, depth)?;
+    let right = term(alloc, cursor, depth)?;
+    Ok(Link { place, sign, right })
+}
+
+/// As many as come.
+#[cycle(expr)]
+fn sum_links(alloc: Global, cursor: &mut Cursor<'_>, depth: u8) -> Result<Items<Link>, Fault>
+    ensures gives { Gives (read (readers depth) (many form.sum_link) cursor.old) result cursor.new }
+    ensures shrinks { length cursor.new ≤ length cursor.old }
+{
+    let mut found = Items::new(alloc);
+    'turns: while at_sum_sign(cursor) {
+        let next = sum_link(alloc, cursor, depth)?;
+        found.push(next)?;
+    }
+    Ok(found)
+}
+
+#[cycle(expr)]
+#[tactic(auto, unfolding(crate::specs::Expressions::sum))]
+fn sum(alloc: Global, cursor: &mut Cursor<'_>, depth: u8) -> Result<Boxed<Expr>, Fault>
+    ensures gives { Gives (read (readers depth) form.sum cursor.old) result cursor.new }
+    ensures shrinks { length cursor.new ≤ length cursor.old }
+{
+    let first = term(alloc, cursor, depth)?;
+    let links = sum_links(alloc, cursor, depth)?;
+    Ok(chain(alloc, first, links)?)
+}
+
+#[cycle(expr)]
+#[tactic(auto, unfolding(crate::specs::Expressions::comparison))]
+fn comparison(
+    alloc: Global,
+    cursor: &mut Cursor<'_>,
+    left: Boxed<Expr>,
+    depth: u8,
+) -> Result<Boxed<Expr>, Fault>
+    ensures gives { Gives (and_then (read (readers depth) form.comparison cursor.old) (λ test r. Ok (test left, r))) result cursor.new }
+    ensures shrinks { length cursor.new ≤ length cursor.old }
+{
+    let (sign, place) = compare_sign(cursor, depth)?;
+    let right = sum(alloc, cursor, depth)?;
+    let node = Expr::Compare {
+        place,
+        sign,
+        left,
+        right,
+    };
+    Ok(Boxed::new(alloc, node)?)
+}
+
+#[cycle(expr)]
+#[tactic(auto, unfolding(crate::specs::Expressions::between))]
+fn between(
+    alloc: Global,
+    cursor: &mut Cursor<'_>,
+    left: Boxed<Expr>,
+    negated: bool,
+    depth: u8,
+) -> Result<Boxed<Expr>, Fault>
+    ensures gives { Gives (and_then (read (readers depth) form.between cursor.old) (λ test r. Ok (test negated left, r))) result cursor.new }
+    ensures shrinks { length cursor.new ≤ length cursor.old }
+{
+    let place = cursor.word(Word::Between)?;
+    let low = sum(alloc, cursor, depth)?;
+    cursor.word(Word::And)?;
+    let high = sum(alloc, cursor, depth)?;
+    let node = Expr::Between {
+        place,
+        negated,
+        operand: left,
+        low,
+        high,
+    };
+    Ok(Boxed::new(alloc, node)?)
+}
+
+/// LIKE, IN or BETWEEN, with or without NOT.
+#[cycle(expr)]
+#[tactic(auto, unfolding(crate::specs::Expressions::range_test))]
+fn range_test(
+    alloc: Global,
+    cursor: &mut Cursor<'_>,
+    left: Boxed<Expr>,
+    depth: u8,
+) -> Result<Boxed<Expr>, Fault>
+    ensures gives { Gives (and_then (read (readers depth) form.range_test cursor.old) (λ test r. Ok (test left, r))) result cursor.new }
+    ensures shrinks { length cursor.new ≤ length cursor.old }
+{
+    let negated = cursor.skip_word(Word::Not);
+    if at_like(cursor) {
+        like(alloc, cursor, left, negated, depth)
+    } else if at_one_of(cursor) {
+        one_of(alloc, cursor, left, negated, depth)
+    } else {
+        between(alloc, cursor, left, negated, depth)
+    }
+}
+
+/// What may stand after a sum.
+#[cycle(expr)]
+#[tactic(auto, unfolding(crate::specs::Expressions::test))]
+fn test(
+    alloc: Global,
+    cursor: &mut Cursor<'_>,
+    left: Boxed<Expr>,
+    depth: u8,
+) -> Result<Boxed<Expr>, Fault>
+    ensures gives { Gives (and_then (read (readers depth) form.test cursor.old) (λ test r. Ok (test left, r))) result cursor.new }
+    ensures shrinks { length cursor.new ≤ length cursor.old }
+{
+    if at_comparison(cursor) {
+        comparison(alloc, cursor, left, depth)
+    } else if at_null_test(cursor) {
+        null_test(alloc, cursor, left, depth)
+    } else if at_range_test(cursor) {
+        range_test(alloc, cursor, left, depth)
+    } else {
+        Ok(left)
+    }
+}
+
+#[cycle(expr)]
+#[tactic(auto, unfolding(crate::specs::Expressions::pred))]
+fn pred(alloc: Global, cursor: &mut Cursor<'_>, depth: u8) -> Result<Boxed<Expr>, Fault>
+    ensures gives { Gives (read (readers depth) form.pred cursor.old) result cursor.new }
+    ensures shrinks { length cursor.new ≤ length cursor.old }
+{
+    let left = sum(alloc, cursor, depth)?;
+    test(alloc, cursor, left, depth)
+}
+
+#[cycle(expr)]
+#[tactic(auto, unfolding(crate::specs::Expressions::neg))]
+fn neg(alloc: Global, cursor: &mut Cursor<'_>, depth: u8) -> Result<Boxed<Expr>, Fault>
+    ensures gives { Gives (read (readers depth) form.neg cursor.old) result cursor.new }
+    ensures shrinks { length cursor.new ≤ length cursor.old }
+{
+    if !cursor.at_word(Word::Not) {
+        return pred(alloc, cursor, depth);
+    }
+    let place = cursor.span().start;
+    let operand = nested_neg(alloc, cursor, depth)?;
+    let node = Expr::Not { place, operand };
+    Ok(Boxed::new(alloc, node)?)
+}
+
+#[cycle(expr)]
+#[tactic(auto, unfolding(crate::specs::Expressions::and_operand))]
+fn and_operand(alloc: Global, cursor: &mut Cursor<'_>, depth: u8) -> Result<Operand, Fault>
+    ensures gives { Gives (read (readers depth) form.and_operand cursor.old) result cursor.new }
+    ensures shrinks { length cursor.new ≤ length cursor.old }
+    ensures falls { IsOk result → length cursor.new < length cursor.old }
+{
+    let place = cursor.word(Word::And)?;
+    let right = neg(alloc, cursor, depth)?;
+    Ok(Operand { place, right })
+}
+
+/// As many as come.
+#[cycle(expr)]
+fn and_operands(alloc: Global, cursor: &mut Cursor<'_>, depth: u8) -> Result<Items<Operand>, Fault>
+    ensures gives { Gives (read (readers depth) (many form.and_operand) cursor.old) result cursor.new }
+    ensures shrinks { length cursor.new ≤ length cursor.old }
+{
+    let mut found = Items::new(alloc);
+    'turns: while at_and(cursor) {
+        let next = and_operand(alloc, cursor, depth)?;
+        found.push(next)?;
+    }
+    Ok(found)
+}
+
+#[cycle(expr)]
+#[tactic(auto, unfolding(crate::specs::Expressions::conj))]
+fn conj(alloc: Global, cursor: &mut Cursor<'_>, depth: u8) -> Result<Boxed<Expr>, Fault>
+    ensures gives { Gives (read (readers depth) form.conj cursor.old) result cursor.new }
+    ensures shrinks { length cursor.new ≤ length cursor.old }
+{
+    let first = neg(alloc, cursor, depth)?;
+    let others = and_operands(alloc, cursor, depth)?;
+    Ok(every(alloc, first, others)?)
+}
+
+#[cycle(expr)]
+#[tactic(auto, unfolding(crate::specs::Expressions::or_operand))]
+fn or_operand(alloc: Global, cursor: &mut Cursor<'_>, depth: u8) -> Result<Operand, Fault>
+    ensures gives { Gives (read (readers depth) form.or_operand cursor.old) result cursor.new }
+    ensures shrinks { length cursor.new ≤ length cursor.old }
+    ensures falls { IsOk result → length cursor.new < length cursor.old }
+{
+    let place = cursor.word(Word::Or)?;
+    let right = conj(alloc, cursor, depth)?;
+    Ok(Operand { place, right })
+}
+
+/// As many as come.
+#[cycle(expr)]
+fn or_operands(alloc: Global, cursor: &mut Cursor<'_>, depth: u8) -> Result<Items<Operand>, Fault>
+    ensures gives { Gives (read (readers depth) (many form.or_operand) cursor.old) result cursor.new }
+    ensures shrinks { length cursor.new ≤ length cursor.old }
+{
+    let mut found = Items::new(alloc);
+    'turns: while at_or(cursor) {
+        let next = or_operand(alloc, cursor, depth)?;
+        found.push(next)?;
+    }
+    Ok(found)
+}
+
+#[cycle(expr)]
+#[tactic(auto, unfolding(crate::specs::Expressions::expr))]
+pub(crate) fn expr(alloc: Global, cursor: &mut Cursor<'_>, depth: u8) -> Result<Boxed<Expr>, Fault>
+    ensures gives { Gives (read (readers depth) form.expr cursor.old) result cursor.new }
+    ensures shrinks { length cursor.new ≤ length cursor.old }
+{
+    let first = conj(alloc, cursor, depth)?;
+    let others = or_operands(alloc, cursor, depth)?;
+    Ok(either(alloc, first, others)?)
+}

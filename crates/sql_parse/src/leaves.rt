@@ -1,0 +1,118 @@
+//! Parts of expressions in which nothing nests: literals, constants, names of columns, and signs.
+ghost use Rattle.std.specs.Prelude.{◌≤◌, ◌<◌, length, IsOk};
+ghost use Rattle.sql_parse.specs.Reading.{read};
+ghost use Rattle.sql_parse.specs.Nesting.{readers};
+ghost use Rattle.sql_parse.specs.Whole.{Gives};
+ghost use Rattle.sql_parse.specs.Expressions as form;
+
+use crate::cursor::{Cursor, DECIMAL, INTEGER, TEXT};
+use crate::fault::Fault;
+use crate::tree::{ChainSign, ColumnName, CompareSign, Constant, Literal};
+use sql_lex::{Sign, Word};
+
+#[tactic(auto, unfolding(crate::specs::Expressions::literal))]
+pub(crate) fn literal(cursor: &mut Cursor<'_>, depth: u8) -> Result<Literal, Fault>
+    ensures gives { Gives (read (readers depth) form.literal cursor.old) result cursor.new }
+    ensures shrinks { length cursor.new ≤ length cursor.old }
+{
+    if cursor.sees(INTEGER) {
+        Ok(Literal::Integer(cursor.take()))
+    } else if cursor.sees(DECIMAL) {
+        Ok(Literal::Decimal(cursor.take()))
+    } else if cursor.sees(TEXT) {
+        Ok(Literal::Text(cursor.take()))
+    } else if cursor.at_word(Word::True) {
+        Ok(Literal::True(cursor.take()))
+    } else if cursor.at_word(Word::False) {
+        Ok(Literal::False(cursor.take()))
+    } else {
+        Err(Fault::Syntax)
+    }
+}
+
+#[tactic(auto, unfolding(crate::specs::Expressions::constant))]
+pub(crate) fn constant(cursor: &mut Cursor<'_>, depth: u8) -> Result<Constant, Fault>
+    ensures gives { Gives (read (readers depth) form.constant cursor.old) result cursor.new }
+    ensures shrinks { length cursor.new ≤ length cursor.old }
+{
+    let minus = cursor.optional_sign(Sign::Minus);
+    let literal = literal(cursor, depth)?;
+    Ok(Constant { minus, literal })
+}
+
+#[tactic(auto, unfolding(crate::specs::Expressions::column_name))]
+pub(crate) fn column_name(cursor: &mut Cursor<'_>, depth: u8) -> Result<ColumnName, Fault>
+    ensures gives { Gives (read (readers depth) form.column_name cursor.old) result cursor.new }
+    ensures shrinks { length cursor.new ≤ length cursor.old }
+{
+    let first = cursor.name()?;
+    if cursor.at_sign(Sign::Dot) {
+        cursor.shift();
+        let name = cursor.name()?;
+        return Ok(ColumnName {
+            source: Some(first),
+            name,
+        });
+    }
+    Ok(ColumnName {
+        source: None,
+        name: first,
+    })
+}
+
+#[tactic(auto, unfolding(crate::specs::Expressions::term_sign))]
+pub(crate) fn term_sign(cursor: &mut Cursor<'_>, depth: u8) -> Result<(ChainSign, usize), Fault>
+    ensures gives { Gives (read (readers depth) form.term_sign cursor.old) result cursor.new }
+    ensures shrinks { length cursor.new ≤ length cursor.old }
+    ensures falls { IsOk result → length cursor.new < length cursor.old }
+{
+    if cursor.at_sign(Sign::Star) {
+        Ok((ChainSign::Times, cursor.take().start))
+    } else if cursor.at_sign(Sign::Quotient) {
+        Ok((ChainSign::Quotient, cursor.take().start))
+    } else if cursor.at_sign(Sign::Remainder) {
+        Ok((ChainSign::Remainder, cursor.take().start))
+    } else {
+        Err(Fault::Syntax)
+    }
+}
+
+#[tactic(auto, unfolding(crate::specs::Expressions::sum_sign))]
+pub(crate) fn sum_sign(cursor: &mut Cursor<'_>, depth: u8) -> Result<(ChainSign, usize), Fault>
+    ensures gives { Gives (read (readers depth) form.sum_sign cursor.old) result cursor.new }
+    ensures shrinks { length cursor.new ≤ length cursor.old }
+    ensures falls { IsOk result → length cursor.new < length cursor.old }
+{
+    if cursor.at_sign(Sign::Plus) {
+        Ok((ChainSign::Plus, cursor.take().start))
+    } else if cursor.at_sign(Sign::Minus) {
+        Ok((ChainSign::Minus, cursor.take().start))
+    } else {
+        Err(Fault::Syntax)
+    }
+}
+
+#[tactic(auto, unfolding(crate::specs::Expressions::compare_sign))]
+pub(crate) fn compare_sign(
+    cursor: &mut Cursor<'_>,
+    depth: u8,
+) -> Result<(CompareSign, usize), Fault>
+    ensures gives { Gives (read (readers depth) form.compare_sign cursor.old) result cursor.new }
+    ensures shrinks { length cursor.new ≤ length cursor.old }
+{
+    if cursor.at_sign(Sign::Equal) {
+        Ok((CompareSign::Equal, cursor.take().start))
+    } else if cursor.at_sign(Sign::Unequal) {
+        Ok((CompareSign::Unequal, cursor.take().start))
+    } else if cursor.at_sign(Sign::Less) {
+        Ok((CompareSign::Less, cursor.take().start))
+    } else if cursor.at_sign(Sign::AtMost) {
+        Ok((CompareSign::AtMost, cursor.take().start))
+    } else if cursor.at_sign(Sign::Greater) {
+        Ok((CompareSign::Greater, cursor.take().start))
+    } else if cursor.at_sign(Sign::AtLeast) {
+        Ok((CompareSign::AtLeast, cursor.take().start))
+    } else {
+        Err(Fault::Syntax)
+    }
+}
