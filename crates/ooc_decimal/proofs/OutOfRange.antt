@@ -1,10 +1,10 @@
--- No type of numbers reaches 127 bits.
-use Rattle.std.proofs.Common.{◌≡◌, ℕ, suc, ◌^◌, ◌<◌, ◌≤◌, Bool, true, false, refl, sym, subst, ltb, arith, ℤ, pos, negsuc, SFits, ◌*◌}
+-- No type of numbers reaches beyond an `i128`, and none but HUGEINT has its least value.
+use Rattle.std.proofs.Common.{◌≡◌, ℕ, suc, ◌^◌, ◌<◌, ◌≤◌, Bool, true, false, refl, ◌∙◌, ap, sym, subst, ltb, arith, ℤ, pos, negsuc, SFits, ◌*◌}
 use Rattle.std.specs.Prelude.{unsigned_abs, ◌*ℤ◌}
 use Rattle.std.specs.Int.{w128, IsNonZero}
 use Rattle.std.proofs.lemmas.Bool.{ltb-true, ltb-false}
 use Rattle.std.proofs.lemmas.Int.{ints, unsigned_abs-mul}
-use Rattle.std.proofs.Math.Nat.{le-mul_of_pos_right}
+use Rattle.std.proofs.Math.Nat.{le-mul_of_pos_right, pow-suc, mul_assoc}
 use Prim.Native.Nat.{zero}
 use Rattle.ooc_types.specs.declared.schema.SqlType.{SqlType}
 use Rattle.ooc_types.specs.declared.schema.SqlType.TheVariants.{Boolean, Integer, BigInt, HugeInt, Decimal, Varchar}
@@ -13,46 +13,59 @@ use Rattle.ooc_decimal.specs.Numeric.{IsNumeric, signed}
 use Rattle.ooc_decimal.proofs.Point.{unit_below, unit_above}
 use Rattle.ooc_decimal.proofs.Signs.{times_signed, abs-signed}
 
-pub too_large : (kind : SqlType) → IsNumeric kind → (z : ℤ) → 2 ^ 127 ≤ unsigned_abs z → IsInRange kind z → ⊥
-too_large Boolean numeric z large inside = inside
-too_large Varchar numeric z large inside = inside
-too_large Integer numeric (pos n) large inside = let h : n < 2 ^ 31 = inside.sfits in omega arith
-too_large Integer numeric (negsuc n) large inside = let h : n < 2 ^ 31 = inside.sfits in omega arith
-too_large BigInt numeric (pos n) large inside = let h : n < 2 ^ 63 = inside.sfits in omega arith
-too_large BigInt numeric (negsuc n) large inside = let h : n < 2 ^ 63 = inside.sfits in omega arith
-too_large HugeInt numeric (pos n) large inside = omega (arith, ints, inside.0)
-too_large HugeInt numeric (negsuc n) large inside = omega (arith, ints, inside.1)
-too_large (Decimal width scale) numeric (pos n) large inside = omega (arith, ints, inside.0, unit_below width 38 numeric.1)
-too_large (Decimal width scale) numeric (negsuc n) large inside = omega (arith, ints, inside.1, unit_below width 38 numeric.1)
-
-pub signed_too_large : (kind : SqlType) → IsNumeric kind → (negative : Bool) (n : ℕ) → 2 ^ 127 ≤ n → IsInRange kind (signed negative n) → ⊥
-signed_too_large kind numeric negative n large inside = too_large kind numeric (signed negative n) (omega (arith, abs-signed negative n)) inside
-
-unfit_size : (z : ℤ) → (SFits w128 z → ⊥) → 2 ^ 127 ≤ unsigned_abs z
-unfit_size (pos n) unfit = elim (ltb n (2 ^ 127)) as (λ t. ltb n (2 ^ 127) ≡ t → 2 ^ 127 ≤ n) [
-  | true ↦ λ e. absurd (unfit (record { sfits = ltb-true n (2 ^ 127) e }))
-  | false ↦ λ e. ltb-false n (2 ^ 127) e
-] refl
-unfit_size (negsuc n) unfit = elim (ltb n (2 ^ 127)) as (λ t. ltb n (2 ^ 127) ≡ t → 2 ^ 127 ≤ suc n) [
-  | true ↦ λ e. absurd (unfit (record { sfits = ltb-true n (2 ^ 127) e }))
-  | false ↦ λ e. omega (arith, ltb-false n (2 ^ 127) e)
-] refl
+-- what is in a range fits an `i128`
+fits : (kind : SqlType) → IsNumeric kind → (z : ℤ) → IsInRange kind z → SFits w128 z
+fits Boolean numeric z inside = absurd inside
+fits Varchar numeric z inside = absurd inside
+fits HugeInt numeric z inside = inside
+fits Integer numeric (pos n) inside = let h : n < 2 ^ 31 = inside.sfits in record { sfits = omega arith }
+fits Integer numeric (negsuc n) inside = let h : n < 2 ^ 31 = inside.sfits in record { sfits = omega arith }
+fits BigInt numeric (pos n) inside = let h : n < 2 ^ 63 = inside.sfits in record { sfits = omega arith }
+fits BigInt numeric (negsuc n) inside = let h : n < 2 ^ 63 = inside.sfits in record { sfits = omega arith }
+fits (Decimal width scale) numeric (pos n) inside = record { sfits = omega (arith, ints, inside.0, unit_below width 38 numeric.1) }
+fits (Decimal width scale) numeric (negsuc n) inside = record { sfits = omega (arith, ints, inside.1, unit_below width 38 numeric.1) }
 
 -- what needs more than an `i128` is in no range
 pub unfit : (kind : SqlType) → IsNumeric kind → (z : ℤ) → (SFits w128 z → ⊥) → IsInRange kind z → ⊥
-unfit kind numeric z more inside = too_large kind numeric z (unfit_size z more) inside
+unfit kind numeric z more inside = more (fits kind numeric z inside)
 
-pub times_too_large : (kind : SqlType) → IsNumeric kind → (z : ℤ) (places : ℕ) → 2 ^ 127 ≤ unsigned_abs z → IsInRange kind (z *ℤ pos (10 ^ places)) → ⊥
+large_unfit : (z : ℤ) → 2 ^ 127 < unsigned_abs z → SFits w128 z → ⊥
+large_unfit (pos n) large small = let h : n < 2 ^ 127 = small.sfits in omega arith
+large_unfit (negsuc n) large small = let h : n < 2 ^ 127 = small.sfits in omega arith
+
+pub too_large : (kind : SqlType) → IsNumeric kind → (z : ℤ) → 2 ^ 127 < unsigned_abs z → IsInRange kind z → ⊥
+too_large kind numeric z large = unfit kind numeric z (large_unfit z large)
+
+pub signed_too_large : (kind : SqlType) → IsNumeric kind → (negative : Bool) (n : ℕ) → 2 ^ 127 < n → IsInRange kind (signed negative n) → ⊥
+signed_too_large kind numeric negative n large inside = too_large kind numeric (signed negative n) (omega (arith, abs-signed negative n)) inside
+
+-- of the two numbers of magnitude 2^127 the positive one is in no range
+pub outside : (kind : SqlType) → IsNumeric kind → (negative : Bool) (n : ℕ) → 2 ^ 127 ≤ n → (negative ≡ true → 2 ^ 127 < n) → IsInRange kind (signed negative n) → ⊥
+outside kind numeric true n large more = signed_too_large kind numeric true n (more refl)
+outside kind numeric false n large more = unfit kind numeric (pos n) (λ small. let h : n < 2 ^ 127 = small.sfits in omega arith)
+
+not_below : (n bound : ℕ) → (n < bound → ⊥) → bound ≤ n
+not_below n bound more = elim (ltb n bound) as (λ t. ltb n bound ≡ t → bound ≤ n) [
+  | true ↦ λ e. absurd (more (ltb-true n bound e))
+  | false ↦ λ e. ltb-false n bound e
+] refl
+
+-- a number with zeros behind it that needs more than 128 bits: it has a zero at least, so it isn't 2^128 itself
+pub beyond : (n places : ℕ) → n < 2 ^ 128 → (n * 10 ^ places < 2 ^ 128 → ⊥) → 2 ^ 128 < n * 10 ^ places
+beyond n zero small more = absurd (more (omega arith))
+beyond n (suc places) small more =
+    let tenth : n * 10 ^ suc places ≡ n * 10 ^ places * 10 = ap (λ k. n * k) (pow-suc 10 places) ∙ sym (mul_assoc n (10 ^ places) 10) in
+    let large : 2 ^ 128 ≤ n * 10 ^ suc places = not_below (n * 10 ^ suc places) (2 ^ 128) more in
+    omega (arith, tenth, large)
+
+pub times_too_large : (kind : SqlType) → IsNumeric kind → (z : ℤ) (places : ℕ) → 2 ^ 127 < unsigned_abs z → IsInRange kind (z *ℤ pos (10 ^ places)) → ⊥
 times_too_large kind numeric z places large inside =
     too_large kind numeric (z *ℤ pos (10 ^ places)) (omega (arith, unsigned_abs-mul z (pos (10 ^ places)), le-mul_of_pos_right {m = 10 ^ places} (unsigned_abs z) (unit_above places))) inside
 
 pub raised_too_large : (kind : SqlType) → IsNumeric kind → (negative : Bool) (n k : ℕ) → (n * k < 2 ^ 128 → ⊥) → IsInRange kind (signed negative n *ℤ pos k) → ⊥
 raised_too_large kind numeric negative n k more inside =
     let P : ℤ → Type 0 = IsInRange kind in
-    signed_too_large kind numeric negative (n * k) (elim (ltb (n * k) (2 ^ 128)) as (λ t. ltb (n * k) (2 ^ 128) ≡ t → 2 ^ 127 ≤ n * k) [
-      | true ↦ λ e. absurd (more (ltb-true (n * k) (2 ^ 128) e))
-      | false ↦ λ e. omega (arith, ltb-false (n * k) (2 ^ 128) e)
-    ] refl) (subst P (sym (times_signed negative n k)) inside)
+    signed_too_large kind numeric negative (n * k) (omega (arith, not_below (n * k) (2 ^ 128) more)) (subst P (sym (times_signed negative n k)) inside)
 
 pub not_zero : (z : ℤ) → SFits w128 z → (z ≡ pos 0 → ⊥) → IsNonZero w128 z
 not_zero (pos zero) fits some = absurd (some refl)

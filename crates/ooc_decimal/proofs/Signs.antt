@@ -1,5 +1,5 @@
 -- Numbers by sign and magnitude: sums and products.
-use Rattle.std.proofs.Common.{◌≡◌, ℕ, suc, ◌+◌, ◌-◌, ◌*◌, ◌^◌, ◌≤◌, Bool, true, false, not, refl, ◌∙◌, ap, sym, arith, ℤ, pos, negsuc}
+use Rattle.std.proofs.Common.{◌≡◌, ℕ, suc, ◌+◌, ◌-◌, ◌*◌, ◌^◌, ◌<◌, ◌≤◌, Bool, true, false, not, refl, ◌∙◌, ap, sym, arith, ℤ, pos, negsuc}
 use Rattle.std.specs.Prelude.{unsigned_abs, neg_ℤ, ◌+ℤ◌, ◌-ℤ◌, ◌*ℤ◌}
 use Rattle.std.proofs.lemmas.Int.{ints}
 use Rattle.std.proofs.lemmas.Bool.Decides.{nat_tests}
@@ -59,7 +59,7 @@ over_sum x y k = ℤ_ind (λ z. (x +ℤ z) *ℤ k ≡ x *ℤ k +ℤ z *ℤ k)
     y
 
 -- a small number brings no large one near
-pub stays_large : (x y : ℤ) → unsigned_abs x ≤ 2 ^ 127 → 2 ^ 128 ≤ unsigned_abs y → 2 ^ 127 ≤ unsigned_abs (x +ℤ y)
+pub stays_large : (x y : ℤ) → unsigned_abs x ≤ 2 ^ 127 → 2 ^ 128 < unsigned_abs y → 2 ^ 127 < unsigned_abs (x +ℤ y)
 stays_large (pos a) (pos b) small large = omega arith
 stays_large (pos a) (negsuc b) small large = grind (arith, nat_tests)
 stays_large (negsuc a) (pos b) small large = grind (arith, nat_tests)
@@ -88,3 +88,9 @@ unfolding one
 at_own_scale z scale to e =
     let none : to - scale ≡ 0 = omega arith in
     sym (ap (λ k. z *ℤ pos (10 ^ k)) none ∙ *ℤ-one z)
+
+-- a raised number that needs more than 128 bits takes a sum with a small one beyond 127 bits
+pub sum_stays_large : (x : ℤ) (negative : Bool) (n k : ℕ) → unsigned_abs x ≤ 2 ^ 127 → 2 ^ 128 < n * k → 2 ^ 127 < unsigned_abs (x +ℤ signed negative n *ℤ pos k)
+sum_stays_large x negative n k small large =
+    let size : unsigned_abs (signed negative n *ℤ pos k) ≡ n * k = sym (ap unsigned_abs (times_signed negative n k)) ∙ abs-signed negative (n * k) in
+    stays_large x (signed negative n *ℤ pos k) small (omega (arith, size))

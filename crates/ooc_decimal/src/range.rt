@@ -15,7 +15,7 @@ pub fn in_range(digits: i128, kind: SqlType) -> Option<i128>
         SqlType::Integer => -2_147_483_648 <= digits && digits <= 2_147_483_647,
         SqlType::BigInt => -9_223_372_036_854_775_808 <= digits
             && digits <= 9_223_372_036_854_775_807,
-        SqlType::HugeInt => digits != i128::MIN,
+        SqlType::HugeInt => true,
         SqlType::Decimal { width, .. } => digits.unsigned_abs() < power_of_ten(width),
         SqlType::Boolean | SqlType::Varchar => false,
     };
@@ -41,9 +41,12 @@ pub fn within(negative: bool, magnitude: u128, kind: SqlType) -> Option<i128>
     requires { IsNumeric kind }
     ensures { IsExact kind (signed negative magnitude) result }
 {
-    if magnitude > i128::MAX as u128 {
-        return None;
+    if magnitude <= i128::MAX as u128 {
+        let size = magnitude as i128;
+        return in_range(if negative { -size } else { size }, kind);
     }
-    let size = magnitude as i128;
-    in_range(if negative { -size } else { size }, kind)
+    if negative && magnitude == i128::MIN.unsigned_abs() {
+        return in_range(i128::MIN, kind);
+    }
+    None
 }

@@ -1,5 +1,5 @@
 //! Sums of numbers by sign and magnitude: one more bit than an `i128`, so that no sum in range is lost on the way.
-ghost use Rattle.std.specs.Prelude.{◌≡◌, ℤ, pos, neg_ℤ, ◌+ℤ◌, ◌*ℤ◌, ◌≤◌, ◌^◌, MatchOption, unsigned_abs};
+ghost use Rattle.std.specs.Prelude.{◌≡◌, ℤ, pos, neg_ℤ, ◌+ℤ◌, ◌*ℤ◌, ◌<◌, ◌≤◌, ◌^◌, MatchOption, unsigned_abs};
 ghost use Rattle.ooc_decimal.specs.Numeric.{IsNumeric, signed};
 ghost use Rattle.ooc_decimal.specs.Exact.{IsExact};
 
@@ -64,7 +64,7 @@ fn sum_of(a: Signed, b: Signed) -> Option<Signed>
 fn raised_sum(a: Signed, b: Signed, places: u8) -> Option<Signed>
     requires { a.magnitude ≤ 2 ^ 127 }
     ensures { let sum = signed a.negative a.magnitude +ℤ signed b.negative b.magnitude *ℤ pos (10 ^ places) in
-        MatchOption result (2 ^ 127 ≤ unsigned_abs sum) (λ s. signed s.negative s.magnitude ≡ sum) }
+        MatchOption result (2 ^ 127 < unsigned_abs sum) (λ s. signed s.negative s.magnitude ≡ sum) }
 {
     match times_power(b.magnitude, places) {
         Some(magnitude) => sum_of(

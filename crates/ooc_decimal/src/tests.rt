@@ -1,5 +1,7 @@
 //! Numbers as text and arithmetic, at values that were worked out by hand.
+ghost use Rattle.std.specs.Prelude.{◌≡◌};
 ghost use Rattle.std.specs.Bool.{OnTrue};
+ghost use Rattle.ooc_types.specs.declared.schema.SqlType.TheVariants.{Decimal};
 ghost use Rattle.ooc_decimal.specs.Numeric.{IsNumeric};
 
 use super::*;
@@ -21,6 +23,12 @@ fn is_numeric(kind: SqlType) -> bool
         SqlType::Integer | SqlType::BigInt | SqlType::HugeInt => true,
         SqlType::Boolean | SqlType::Varchar => false,
     }
+}
+
+fn decimal(width: u8, scale: u8) -> SqlType
+    ensures { result ≡ Decimal width scale }
+{
+    SqlType::Decimal { width, scale }
 }
 
 #[test]
@@ -57,8 +65,8 @@ fn numbers_print_with_their_sign_and_places(rt: HostRuntime) -> Result<(), Fail>
 }
 
 #[test]
-fn texts_are_read_as_numbers(rt: HostRuntime) {
-    let cases: [(&str, SqlType, Option<i128>); 40] = [
+fn integers_are_read_up_to_the_ends_of_their_types(rt: HostRuntime) {
+    let cases: [(&str, SqlType, Option<i128>); 13] = [
         ("2147483647", SqlType::Integer, Some(2_147_483_647)),
         ("2147483648", SqlType::Integer, None),
         ("-2147483648", SqlType::Integer, Some(-2_147_483_648)),
@@ -80,12 +88,22 @@ fn texts_are_read_as_numbers(rt: HostRuntime) {
             Some(MOST),
         ),
         (
+            "170141183460469231731687303715884105728",
+            SqlType::HugeInt,
+            None,
+        ),
+        (
             "-170141183460469231731687303715884105727",
             SqlType::HugeInt,
             Some(-MOST),
         ),
         (
             "-170141183460469231731687303715884105728",
+            SqlType::HugeInt,
+            Some(i128::MIN),
+        ),
+        (
+            "-170141183460469231731687303715884105729",
             SqlType::HugeInt,
             None,
         ),
@@ -94,6 +112,16 @@ fn texts_are_read_as_numbers(rt: HostRuntime) {
             SqlType::HugeInt,
             None,
         ),
+    ];
+    for (text, kind, number) in cases {
+        assert!(rt; is_numeric(kind));
+        assert_eq!(rt; read_number(text.as_bytes(), kind), number, "at {text}");
+    }
+}
+
+#[test]
+fn blanks_signs_and_points_have_their_places(rt: HostRuntime) {
+    let cases: [(&str, SqlType, Option<i128>); 17] = [
         (" \t+7 ", SqlType::Integer, Some(7)),
         ("-0", SqlType::Integer, Some(0)),
         (
@@ -109,78 +137,48 @@ fn texts_are_read_as_numbers(rt: HostRuntime) {
         ("1.0", SqlType::Integer, None),
         ("1\n", SqlType::Integer, None),
         ("1x", SqlType::BigInt, None),
-        (
-            "-0.0005",
-            SqlType::Decimal {
-                width: 18,
-                scale: 3,
-            },
-            Some(-1),
-        ),
-        (
-            "-0.0004",
-            SqlType::Decimal {
-                width: 18,
-                scale: 3,
-            },
-            Some(0),
-        ),
-        (
-            "0.0005",
-            SqlType::Decimal {
-                width: 18,
-                scale: 3,
-            },
-            Some(1),
-        ),
+        (".5", decimal(2, 1), Some(5)),
+        ("5.", decimal(2, 1), Some(50)),
+        (".", decimal(2, 1), None),
+        ("-.", decimal(2, 1), None),
+        ("1.2.3", decimal(9, 2), None),
+        ("0.00x", decimal(9, 1), None),
+    ];
+    for (text, kind, number) in cases {
+        assert!(rt; is_numeric(kind));
+        assert_eq!(rt; read_number(text.as_bytes(), kind), number, "at {text}");
+    }
+}
+
+#[test]
+fn decimals_are_rounded_to_their_scale_and_kept_to_their_width(rt: HostRuntime) {
+    let cases: [(&str, SqlType, Option<i128>); 12] = [
+        ("-0.0005", decimal(18, 3), Some(-1)),
+        ("-0.0004", decimal(18, 3), Some(0)),
+        ("0.0005", decimal(18, 3), Some(1)),
         (
             "0.000499999999999999999999999999999999999999999999",
-            SqlType::Decimal {
-                width: 18,
-                scale: 3,
-            },
+            decimal(18, 3),
             Some(0),
         ),
-        (
-            "1.55",
-            SqlType::Decimal {
-                width: 18,
-                scale: 3,
-            },
-            Some(1550),
-        ),
-        (".5", SqlType::Decimal { width: 2, scale: 1 }, Some(5)),
-        ("5.", SqlType::Decimal { width: 2, scale: 1 }, Some(50)),
-        (".", SqlType::Decimal { width: 2, scale: 1 }, None),
-        ("-.", SqlType::Decimal { width: 2, scale: 1 }, None),
-        ("1.2.3", SqlType::Decimal { width: 9, scale: 2 }, None),
-        ("0.00x", SqlType::Decimal { width: 9, scale: 1 }, None),
-        ("9.94", SqlType::Decimal { width: 2, scale: 1 }, Some(99)),
-        ("9.95", SqlType::Decimal { width: 2, scale: 1 }, None),
-        ("-9.95", SqlType::Decimal { width: 2, scale: 1 }, None),
-        ("99.5", SqlType::Decimal { width: 3, scale: 0 }, Some(100)),
+        ("1.55", decimal(18, 3), Some(1550)),
+        ("9.94", decimal(2, 1), Some(99)),
+        ("9.95", decimal(2, 1), None),
+        ("-9.95", decimal(2, 1), None),
+        ("99.5", decimal(3, 0), Some(100)),
         (
             "99999999999999999999999999999999999999",
-            SqlType::Decimal {
-                width: 38,
-                scale: 0,
-            },
+            decimal(38, 0),
             Some(NINES),
         ),
         (
             "0.99999999999999999999999999999999999999",
-            SqlType::Decimal {
-                width: 38,
-                scale: 38,
-            },
+            decimal(38, 38),
             Some(NINES),
         ),
         (
             "0.999999999999999999999999999999999999999",
-            SqlType::Decimal {
-                width: 38,
-                scale: 38,
-            },
+            decimal(38, 38),
             None,
         ),
     ];
@@ -193,59 +191,17 @@ fn texts_are_read_as_numbers(rt: HostRuntime) {
 // Sums of two scales, at the ends of types, and one that needs more than an `i128` on the way.
 #[test]
 fn sums_are_exact(rt: HostRuntime) {
-    let cases: [(i128, u8, i128, u8, SqlType, Option<i128>); 8] = [
-        (
-            105,
-            2,
-            5,
-            1,
-            SqlType::Decimal { width: 5, scale: 2 },
-            Some(155),
-        ),
-        (
-            5,
-            1,
-            105,
-            2,
-            SqlType::Decimal { width: 5, scale: 2 },
-            Some(155),
-        ),
+    let cases: [(i128, u8, i128, u8, SqlType, Option<i128>); 10] = [
+        (105, 2, 5, 1, decimal(5, 2), Some(155)),
+        (5, 1, 105, 2, decimal(5, 2), Some(155)),
         (2_147_483_647, 0, 1, 0, SqlType::Integer, None),
         (2_147_483_647, 0, 1, 0, SqlType::BigInt, Some(2_147_483_648)),
         (MOST, 0, 1, 0, SqlType::HugeInt, None),
-        (
-            NINES,
-            2,
-            1,
-            2,
-            SqlType::Decimal {
-                width: 38,
-                scale: 2,
-            },
-            None,
-        ),
-        (
-            2 * TENS,
-            0,
-            -NINES - 1,
-            1,
-            SqlType::Decimal {
-                width: 38,
-                scale: 1,
-            },
-            None,
-        ),
-        (
-            2 * TENS,
-            0,
-            -NINES - 2,
-            1,
-            SqlType::Decimal {
-                width: 38,
-                scale: 1,
-            },
-            Some(NINES),
-        ),
+        (-MOST, 0, -1, 0, SqlType::HugeInt, Some(i128::MIN)),
+        (i128::MIN, 0, -1, 0, SqlType::HugeInt, None),
+        (NINES, 2, 1, 2, decimal(38, 2), None),
+        (2 * TENS, 0, -NINES - 1, 1, decimal(38, 1), None),
+        (2 * TENS, 0, -NINES - 2, 1, decimal(38, 1), Some(NINES)),
     ];
     for (a, a_scale, b, b_scale, kind, exact) in cases {
         assert!(rt; is_numeric(kind));
@@ -257,23 +213,9 @@ fn sums_are_exact(rt: HostRuntime) {
 // The last is in units of a further place, and small again.
 #[test]
 fn differences_are_exact(rt: HostRuntime) {
-    let cases: [(i128, u8, i128, u8, SqlType, Option<i128>); 6] = [
-        (
-            5,
-            1,
-            105,
-            2,
-            SqlType::Decimal { width: 5, scale: 2 },
-            Some(-55),
-        ),
-        (
-            105,
-            2,
-            5,
-            1,
-            SqlType::Decimal { width: 5, scale: 2 },
-            Some(55),
-        ),
+    let cases: [(i128, u8, i128, u8, SqlType, Option<i128>); 8] = [
+        (5, 1, 105, 2, decimal(5, 2), Some(-55)),
+        (105, 2, 5, 1, decimal(5, 2), Some(55)),
         (
             -2_147_483_647,
             0,
@@ -282,19 +224,11 @@ fn differences_are_exact(rt: HostRuntime) {
             SqlType::Integer,
             Some(-2_147_483_648),
         ),
-        (-MOST, 0, 1, 0, SqlType::HugeInt, None),
+        (-MOST, 0, 1, 0, SqlType::HugeInt, Some(i128::MIN)),
+        (i128::MIN, 0, 1, 0, SqlType::HugeInt, None),
+        (0, 0, i128::MIN, 0, SqlType::HugeInt, None),
         (-1, 0, i128::MIN, 0, SqlType::HugeInt, Some(MOST)),
-        (
-            NINES,
-            0,
-            NINES - 1,
-            0,
-            SqlType::Decimal {
-                width: 38,
-                scale: 1,
-            },
-            Some(10),
-        ),
+        (NINES, 0, NINES - 1, 0, decimal(38, 1), Some(10)),
     ];
     for (a, a_scale, b, b_scale, kind, exact) in cases {
         assert!(rt; is_numeric(kind));
@@ -305,28 +239,13 @@ fn differences_are_exact(rt: HostRuntime) {
 
 #[test]
 fn products_are_exact(rt: HostRuntime) {
-    let cases: [(i128, u8, i128, u8, SqlType, Option<i128>); 4] = [
-        (
-            105,
-            2,
-            -5,
-            1,
-            SqlType::Decimal { width: 8, scale: 3 },
-            Some(-525),
-        ),
+    let cases: [(i128, u8, i128, u8, SqlType, Option<i128>); 6] = [
+        (105, 2, -5, 1, decimal(8, 3), Some(-525)),
         (MOST, 0, 2, 0, SqlType::HugeInt, None),
-        (1 << 64, 0, -(1 << 63), 0, SqlType::HugeInt, None),
-        (
-            NINES,
-            19,
-            1,
-            19,
-            SqlType::Decimal {
-                width: 38,
-                scale: 38,
-            },
-            Some(NINES),
-        ),
+        (1 << 64, 0, -(1 << 63), 0, SqlType::HugeInt, Some(i128::MIN)),
+        (1 << 64, 0, 1 << 63, 0, SqlType::HugeInt, None),
+        (i128::MIN, 0, -1, 0, SqlType::HugeInt, None),
+        (NINES, 19, 1, 19, decimal(38, 38), Some(NINES)),
     ];
     for (a, a_scale, b, b_scale, kind, exact) in cases {
         assert!(rt; is_numeric(kind));
@@ -339,6 +258,7 @@ fn products_are_exact(rt: HostRuntime) {
 fn quotients_are_cut_and_remainders_have_the_sign_of_the_dividend(rt: HostRuntime) {
     assert_eq!(rt; quotient(-7, 2, SqlType::Integer), Some(-3));
     assert_eq!(rt; quotient(i128::MIN, -1, SqlType::HugeInt), None);
+    assert_eq!(rt; quotient(i128::MIN, 1, SqlType::HugeInt), Some(i128::MIN));
     assert_eq!(rt; quotient(-2_147_483_648, -1, SqlType::Integer), None);
     assert_eq!(rt; remainder(-7, 2, SqlType::Integer), Some(-1));
     assert_eq!(rt; remainder(7, -2, SqlType::Integer), Some(1));

@@ -39,7 +39,7 @@ abbrev pub IsInRange : SqlType → ℤ → Type 0
 IsInRange Boolean digits = ⊥
 IsInRange Integer digits = FitsSigned w32 digits
 IsInRange BigInt digits = FitsSigned w64 digits
-IsInRange HugeInt digits = (digits <ℤ pos (2 ^ 127)) × (pos 0 <ℤ (digits +ℤ pos (2 ^ 127)))
+IsInRange HugeInt digits = FitsSigned w128 digits
 IsInRange (Decimal width places) digits = (digits <ℤ pos (10 ^ width)) × (pos 0 <ℤ (digits +ℤ pos (10 ^ width)))
 IsInRange Varchar digits = ⊥
 
