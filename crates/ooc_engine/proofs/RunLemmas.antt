@@ -13,7 +13,7 @@ use Rattle.ooc_engine.specs.Lines.{line_of}
 use Rattle.ooc_engine.specs.Script.{Script}
 use Rattle.ooc_engine.specs.Meaning.{Outcome, Gives, Stops}
 use Rattle.ooc_engine.specs.Says.{MayCut, Goes, Run, Writes, IsWritten, Says, Ends, ends_after, run_ends, script_ends}
-use Rattle.ooc_engine.specs.Ends.{EndsBy}
+use Rattle.ooc_engine.specs.Ends.{EndsAs, EndsBy}
 use Rattle.ooc_engine.proofs.Known.{Appends-then}
 
 -- a run may be cut at any statement
@@ -123,3 +123,25 @@ ended_read old new status result e is =
       ]
       | inr lost ↦ let h = sym lost ∙ is in cc
     ]
+
+-- a run that was to end with its line did so, unless memory ran out or the output failed
+pub ends_as : (old new : Option (List ℕ)) (status result : Status) → EndsBy old new status result → EndsAs status result
+ends_as old new status result e =
+    elim (e.ends) as (λ _. EndsAs status result) [
+      | inl whole ↦ elim (e.which) as (λ _. EndsAs status result) [
+        | inl same ↦ inl (whole.0 ∙ same)
+        | inr memory ↦ inr (inl (whole.0 ∙ memory))
+      ]
+      | inr lost ↦ inr (inr lost)
+    ]
+
+-- the same of a status that is told to be another
+pub ends_by : (old new : Option (List ℕ)) (status other result : Status) → status ≡ other → EndsBy old new status result → EndsBy old new other result
+ends_by old new status other result is e = subst (λ (s : Status). EndsBy old new s result) is e
+
+-- one result has one status, and none where it is Ok
+pub stopped_as : {X : Type 0} (r : Result X Status) (status other : Status) → r ≡ Err status → r ≡ Err other → status ≡ other
+stopped_as r status other is also = let h = sym is ∙ also in cc
+
+pub not_stopped : {X : Type 0} (r : Result X Status) (x : X) (status : Status) → r ≡ Ok x → r ≡ Err status → ⊥
+not_stopped r x status is also = let h = sym is ∙ also in cc

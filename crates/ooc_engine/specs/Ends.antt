@@ -36,6 +36,10 @@ pub record HasWriteCause (before now : ℕ) (status : Status) : Type 0 where
   pub rose : status ≡ WriteFault → Rose before now
   pub same : status ≢ WriteFault → now ≡ before
 
+-- A call that was to end so: it did, unless memory ran out or the output failed.
+abbrev pub EndsAs : Status → Status → Type 0
+EndsAs status result = (result ≡ status) ⊎ ((result ≡ OutOfMemory) ⊎ (result ≡ WriteFault))
+
 -- The line of the status was appended, or that of want of memory; or, where the output failed, a front of it.
 pub record EndsBy (old new : Option (List ℕ)) (status result : Status) : Type 0 where
   pub whole : Status

@@ -5,6 +5,7 @@ ghost use Rattle.ooc_io.specs.Counts.{Rose, Stayed};
 ghost use Rattle.ooc_engine.specs.Settings.{settings, words_of};
 ghost use Rattle.ooc_engine.specs.Catalog.{no_tables};
 ghost use Rattle.ooc_engine.specs.Says.{Says, Ends};
+ghost use Rattle.ooc_engine.specs.Ends.{EndsAs, EndsBy};
 
 use crate::catalog::Catalog;
 use crate::ending::end;
@@ -27,6 +28,9 @@ fn run_alone<F: Files, K: Sink>(
         × Appends (K.written out.old) (K.written out.new) more
         × Says no_tables (words_of words.now) held more result) }
     ensures usage { (fault : _) → result ≡ Status.Usage fault → settings (words_of words.now) ≡ Err fault }
+    ensures usage_told { (fault : _) → settings (words_of words.now) ≡ Err fault → EndsAs (Status.Usage fault) result }
+    ensures usage_line { (fault : _) → settings (words_of words.now) ≡ Err fault
+        → EndsBy (K.written out.old) (K.written out.new) (Status.Usage fault) result }
     ensures read_fault { result ≡ Status.ReadFault → Rose (F.faults files.old) (F.faults files.new) }
     ensures write_fault { result ≡ Status.WriteFault → Rose (K.faults out.old) (K.faults out.new) }
     ensures write_told { result ≢ Status.WriteFault → K.faults out.new ≡ K.faults out.old }
@@ -66,8 +70,12 @@ pub fn run_script<R: Threads + Wait + Sync, F: Files, K: Sink, L: SpillLane + Se
     ensures says { IfSome (F.holds files.old) (λ held. (more : List ℕ)
         × Appends (K.written out.old) (K.written out.new) more
         × Says no_tables (words_of words.now) held more result) }
-    // Wrong words are told from the words alone.
+    // Usage is answered for wrong words alone, and wrong words are answered so, whatever the files hold or tell. What
+    // is then written is the line of their fault.
     ensures usage { (fault : _) → result ≡ Status.Usage fault → settings (words_of words.now) ≡ Err fault }
+    ensures usage_told { (fault : _) → settings (words_of words.now) ≡ Err fault → EndsAs (Status.Usage fault) result }
+    ensures usage_line { (fault : _) → settings (words_of words.now) ≡ Err fault
+        → EndsBy (K.written out.old) (K.written out.new) (Status.Usage fault) result }
     // Each fault has its cause.
     ensures read_fault { result ≡ Status.ReadFault → Rose (F.faults files.old) (F.faults files.new) }
     ensures write_fault { result ≡ Status.WriteFault → Rose (K.faults out.old) (K.faults out.new) }
