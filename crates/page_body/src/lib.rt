@@ -2,7 +2,11 @@
 #![tactic(auto)]
 
 mod body;
+mod fault;
 mod open;
+mod pages;
 
 pub use body::PageBody;
+pub use fault::PoolFault;
 pub use open::OpenPage;
+pub use pages::Pages;
