@@ -5,3 +5,7 @@ pub mod View
 pub mod Keeps
 pub mod Shows
 pub mod Refusals
+pub mod PageSize
+pub mod Slots
+pub mod SlotLaws
+pub mod MemView
