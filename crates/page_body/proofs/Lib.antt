@@ -1,0 +1,4 @@
+pub mod PartMoves
+pub mod Bags
+pub mod Places
+pub mod SlotSteps

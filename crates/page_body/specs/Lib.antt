@@ -1,3 +1,11 @@
 pub mod Bodies
 pub mod Lending
 pub mod Stands
+pub mod View
+pub mod Keeps
+pub mod Shows
+pub mod Refusals
+pub mod PageSize
+pub mod Slots
+pub mod SlotLaws
+pub mod MemView

@@ -2,7 +2,17 @@
 #![tactic(auto)]
 
 mod body;
+mod fault;
+mod mem_page;
+mod mem_pages;
+mod moves;
 mod open;
+mod pages;
+mod slot;
 
 pub use body::PageBody;
+pub use fault::PoolFault;
+pub use mem_page::{MemPage, MemPin};
+pub use mem_pages::MemPages;
 pub use open::OpenPage;
+pub use pages::Pages;

@@ -1,0 +1,60 @@
+use Rattle.std.proofs.Common.{rules, refl, sym, ap, subst, arith, ℕ, ◌≡◌, ◌≢◌, ◌+◌, ◌<◌, ◌≤◌, ◌∙◌, Some, length}
+use Rattle.std.specs.Prelude.{slice_get, slice_set}
+use Rattle.std.proofs.Common.{◌-◌}
+use Rattle.page_body.specs.declared.slot.Slot.TheVariants.{Open, Sealed, Gone}
+use Rattle.page_body.specs.Slots.{pins_of, opens_of, LiveIn, LiveAt, ValidIn}
+use Rattle.page_body.proofs.SlotSteps.{open_there, some_held, total_less, open_less, lives_on, valid_on}
+use Rattle.page_body.proofs.mem_pages.MemPagesPages.discard.Goals as goal
+
+pub overflow_sub-self : goal.overflow_sub-self
+overflow_sub-self c =
+    let slots = c.args.self.now.slots.items in
+    let held = c.args.self.now.held in
+    let page = c.args.self.now.page in
+    let grant = c.args.self.now.grant in
+    let at = c.args.page.frame.number in
+    let was = open_there slots at c.requires.own in
+    some_held slots at Open Gone was held (omega arith) c.args.self.now.total
+
+pub invariant_of-self : goal.invariant_of-self
+invariant_of-self c =
+    let slots = c.args.self.now.slots.items in
+    let held = c.args.self.now.held in
+    let page = c.args.self.now.page in
+    let grant = c.args.self.now.grant in
+    let at = c.args.page.frame.number in
+    let was = open_there slots at c.requires.own in
+    let total = total_less slots at Open Gone was held refl c.args.self.now.total in
+    let within = c.args.self.now.within in
+    record { page_fits = c.args.self.now.page_fits; least = c.args.self.now.least; most = c.args.self.now.most; within = omega (arith, within); total = total }
+
+pub returns-clause-counted : goal.returns-clause-counted
+returns-clause-counted c =
+    let slots = c.args.self.now.slots.items in
+    let held = c.args.self.now.held in
+    let page = c.args.self.now.page in
+    let grant = c.args.self.now.grant in
+    let at = c.args.page.frame.number in
+    let was = open_there slots at c.requires.own in
+    let one = some_held slots at Open Gone was held (omega arith) c.args.self.now.total in
+    open_less slots at Open Gone was page grant held (held - 1) refl refl (omega (arith, one))
+
+pub returns-clause-lives : goal.returns-clause-lives
+returns-clause-lives c =
+    let slots = c.args.self.now.slots.items in
+    let held = c.args.self.now.held in
+    let page = c.args.self.now.page in
+    let grant = c.args.self.now.grant in
+    let at = c.args.page.frame.number in
+    let was = open_there slots at c.requires.own in
+    lives_on slots at Open Gone was page (λ p live. absurd live)
+
+pub returns-clause-pins : goal.returns-clause-pins
+returns-clause-pins c =
+    let slots = c.args.self.now.slots.items in
+    let held = c.args.self.now.held in
+    let page = c.args.self.now.page in
+    let grant = c.args.self.now.grant in
+    let at = c.args.page.frame.number in
+    let was = open_there slots at c.requires.own in
+    valid_on slots at Open Gone was page (λ q v. absurd v)
