@@ -1,6 +1,6 @@
 -- No type of numbers reaches beyond an `i128`, and none but HUGEINT has its least value.
 use Rattle.std.proofs.Common.{◌≡◌, ℕ, suc, ◌^◌, ◌<◌, ◌≤◌, Bool, true, false, refl, ◌∙◌, ap, sym, subst, ltb, arith, ℤ, pos, negsuc, SFits, ◌*◌}
-use Rattle.std.specs.Prelude.{unsigned_abs, ◌*ℤ◌}
+use Rattle.std.specs.Prelude.{unsigned_abs, ◌+ℤ◌, ◌*ℤ◌}
 use Rattle.std.specs.Int.{w128, IsNonZero}
 use Rattle.std.proofs.lemmas.Bool.{ltb-true, ltb-false}
 use Rattle.std.proofs.lemmas.Int.{ints, unsigned_abs-mul}
@@ -11,7 +11,7 @@ use Rattle.ooc_types.specs.declared.schema.SqlType.TheVariants.{Boolean, Integer
 use Rattle.ooc_types.specs.Meets.{IsInRange}
 use Rattle.ooc_decimal.specs.Numeric.{IsNumeric, signed}
 use Rattle.ooc_decimal.proofs.Point.{unit_below, unit_above}
-use Rattle.ooc_decimal.proofs.Signs.{times_signed, abs-signed}
+use Rattle.ooc_decimal.proofs.Signs.{times_signed, abs-signed, stays_large}
 
 -- what is in a range fits an `i128`
 fits : (kind : SqlType) → IsNumeric kind → (z : ℤ) → IsInRange kind z → SFits w128 z
@@ -51,12 +51,18 @@ not_below n bound more = elim (ltb n bound) as (λ t. ltb n bound ≡ t → boun
 ] refl
 
 -- a number with zeros behind it that needs more than 128 bits: it has a zero at least, so it isn't 2^128 itself
-pub beyond : (n places : ℕ) → n < 2 ^ 128 → (n * 10 ^ places < 2 ^ 128 → ⊥) → 2 ^ 128 < n * 10 ^ places
+beyond : (n places : ℕ) → n < 2 ^ 128 → (n * 10 ^ places < 2 ^ 128 → ⊥) → 2 ^ 128 < n * 10 ^ places
 beyond n zero small more = absurd (more (omega arith))
 beyond n (suc places) small more =
     let tenth : n * 10 ^ suc places ≡ n * 10 ^ places * 10 = ap (λ k. n * k) (pow-suc 10 places) ∙ sym (mul_assoc n (10 ^ places) 10) in
     let large : 2 ^ 128 ≤ n * 10 ^ suc places = not_below (n * 10 ^ suc places) (2 ^ 128) more in
     omega (arith, tenth, large)
+
+-- so a sum with it is beyond each type, whatever the other number of at most 127 bits
+pub sum_beyond : (a_negative : Bool) (a : ℕ) (b_negative : Bool) (b places : ℕ) → a ≤ 2 ^ 127 → b < 2 ^ 128 → (b * 10 ^ places < 2 ^ 128 → ⊥) → 2 ^ 127 < unsigned_abs (signed a_negative a +ℤ signed b_negative b *ℤ pos (10 ^ places))
+sum_beyond a_negative a b_negative b places a_small b_small more =
+    let size : unsigned_abs (signed b_negative b *ℤ pos (10 ^ places)) ≡ b * 10 ^ places = sym (ap unsigned_abs (times_signed b_negative b (10 ^ places))) ∙ abs-signed b_negative (b * 10 ^ places) in
+    stays_large (signed a_negative a) (signed b_negative b *ℤ pos (10 ^ places)) (omega (arith, abs-signed a_negative a)) (omega (arith, size, beyond b places b_small more))
 
 pub times_too_large : (kind : SqlType) → IsNumeric kind → (z : ℤ) (places : ℕ) → 2 ^ 127 < unsigned_abs z → IsInRange kind (z *ℤ pos (10 ^ places)) → ⊥
 times_too_large kind numeric z places large inside =

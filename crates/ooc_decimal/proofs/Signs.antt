@@ -88,9 +88,3 @@ unfolding one
 at_own_scale z scale to e =
     let none : to - scale ≡ 0 = omega arith in
     sym (ap (λ k. z *ℤ pos (10 ^ k)) none ∙ *ℤ-one z)
-
--- a raised number that needs more than 128 bits takes a sum with a small one beyond 127 bits
-pub sum_stays_large : (x : ℤ) (negative : Bool) (n k : ℕ) → unsigned_abs x ≤ 2 ^ 127 → 2 ^ 128 < n * k → 2 ^ 127 < unsigned_abs (x +ℤ signed negative n *ℤ pos k)
-sum_stays_large x negative n k small large =
-    let size : unsigned_abs (signed negative n *ℤ pos k) ≡ n * k = sym (ap unsigned_abs (times_signed negative n k)) ∙ abs-signed negative (n * k) in
-    stays_large x (signed negative n *ℤ pos k) small (omega (arith, size))

@@ -3,6 +3,7 @@ ghost use Rattle.std.specs.Prelude.{◌≡◌, ◌≢◌, ℤ, pos, neg_ℤ, ◌
 ghost use Rattle.ooc_decimal.specs.Numeric.{IsNumeric, scale_of};
 ghost use Rattle.ooc_decimal.specs.Exact.{IsExact, at_scale};
 
+use crate::narrow;
 use crate::range::{in_range, scale};
 use crate::signed::{from_digits, opposite, scaled_sum};
 use ooc_types::SqlType;
@@ -38,6 +39,9 @@ pub fn add(a: i128, a_scale: u8, b: i128, b_scale: u8, kind: SqlType) -> Option<
     if a_scale == to && b_scale == to {
         return add_digits(a, b, kind);
     }
+    if let Some(sum) = narrow::sum(a, to - a_scale, b, to - b_scale) {
+        return in_range(sum, kind);
+    }
     scaled_sum(
         from_digits(a),
         to - a_scale,
@@ -57,6 +61,9 @@ pub fn sub(a: i128, a_scale: u8, b: i128, b_scale: u8, kind: SqlType) -> Option<
     let to = scale(kind);
     if a_scale == to && b_scale == to {
         return sub_digits(a, b, kind);
+    }
+    if let Some(difference) = narrow::difference(a, to - a_scale, b, to - b_scale) {
+        return in_range(difference, kind);
     }
     scaled_sum(
         from_digits(a),
@@ -85,6 +92,9 @@ pub fn quotient(a: i128, b: i128, kind: SqlType) -> Option<i128>
     requires divisor { b ≢ pos 0 }
     ensures { IsExact kind (int_div a b) result }
 {
+    if let Some(quotient) = narrow::quotient(a, b) {
+        return in_range(quotient, kind);
+    }
     match a.checked_div(b) {
         Some(quotient) => in_range(quotient, kind),
         None => None,
@@ -97,6 +107,9 @@ pub fn remainder(a: i128, b: i128, kind: SqlType) -> Option<i128>
     requires divisor { b ≢ pos 0 }
     ensures { IsExact kind (int_rem a b) result }
 {
+    if let Some(remainder) = narrow::remainder(a, b) {
+        return in_range(remainder, kind);
+    }
     match a.checked_rem(b) {
         Some(remainder) => in_range(remainder, kind),
         None => in_range(0, kind),

@@ -3,6 +3,7 @@
 
 mod arithmetic;
 mod digits;
+mod narrow;
 mod places;
 mod powers;
 mod print;

@@ -61,6 +61,7 @@ fn sum_of(a: Signed, b: Signed) -> Option<Signed>
 }
 
 // `a + b * 10^places`; none where that is beyond each type.
+#[tactic(auto, using(crate::proofs::OutOfRange::sum_beyond))]
 fn raised_sum(a: Signed, b: Signed, places: u8) -> Option<Signed>
     requires { a.magnitude ≤ 2 ^ 127 }
     ensures { let sum = signed a.negative a.magnitude +ℤ signed b.negative b.magnitude *ℤ pos (10 ^ places) in
