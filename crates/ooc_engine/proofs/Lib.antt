@@ -4,6 +4,7 @@ pub mod SoFar
 pub mod CountedLemmas
 pub mod Opened
 pub mod Top
+pub mod CauseLemmas
 pub mod SplitLemmas
 pub mod PageLemmas
 pub mod TableLemmas

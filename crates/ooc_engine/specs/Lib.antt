@@ -17,3 +17,4 @@ pub mod Selected
 pub mod Says
 pub mod Counted
 pub mod Ends
+pub mod Causes

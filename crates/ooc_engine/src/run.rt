@@ -6,6 +6,7 @@ ghost use Rattle.ooc_engine.specs.Settings.{settings, words_of};
 ghost use Rattle.ooc_engine.specs.Catalog.{no_tables};
 ghost use Rattle.ooc_engine.specs.Says.{Says, Ends};
 ghost use Rattle.ooc_engine.specs.Ends.{EndsAs, EndsBy};
+ghost use Rattle.ooc_engine.specs.Causes.{HasCause};
 
 use crate::catalog::Catalog;
 use crate::ending::end;
@@ -76,6 +77,8 @@ pub fn run_script<R: Threads + Wait + Sync, F: Files, K: Sink, L: SpillLane + Se
     ensures usage_told { (fault : _) → settings (words_of words.now) ≡ Err fault → EndsAs (Status.Usage fault) result }
     ensures usage_line { (fault : _) → settings (words_of words.now) ≡ Err fault
         → EndsBy (K.written out.old) (K.written out.new) (Status.Usage fault) result }
+    // Each refusal comes exactly where its cause is, and so does Done.
+    ensures causes { IfSome (F.holds files.old) (λ held. HasCause (words_of words.now) held result) }
     // Each fault has its cause.
     ensures read_fault { result ≡ Status.ReadFault → Rose (F.faults files.old) (F.faults files.new) }
     ensures write_fault { result ≡ Status.WriteFault → Rose (K.faults out.old) (K.faults out.new) }

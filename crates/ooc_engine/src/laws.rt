@@ -1,0 +1,27 @@
+//! Laws of the definitions. The functions do nothing; their contracts say the laws.
+ghost use Rattle.std.specs.Prelude.{◌≡◌, ◌↔◌, ℕ, List, [], Result};
+ghost use Rattle.ooc_io.specs.Held.{Held};
+ghost use Rattle.ooc_engine.specs.declared.statement.Statement.{Statement};
+ghost use Rattle.ooc_engine.specs.declared.status.Status.{Status};
+ghost use Rattle.ooc_engine.specs.Catalog.{Catalog};
+ghost use Rattle.ooc_engine.specs.Meaning.{Outcome};
+ghost use Rattle.ooc_engine.specs.ScriptText.{IsScript};
+ghost use Rattle.ooc_engine.specs.Script.{Script, IsOpened};
+ghost use Rattle.ooc_engine.specs.Says.{Run};
+ghost use Rattle.ooc_engine.specs.Counted.{IsRunOf};
+
+/// A script is one: bytes are the spelling of at most one list of statements.
+pub fn a_script_is_one()
+    ensures { (bytes : List ℕ) (a b : List Statement) → IsScript bytes a → IsScript bytes b → a ≡ b }
+{}
+
+/// Over the same files, words open one script or meet one refusal.
+pub fn an_opening_is_one()
+    ensures { (words : List (List ℕ)) (held : Held) (a b : Result Script Status) → IsOpened words held a → IsOpened words held b → a ≡ b }
+{}
+
+/// What a run writes are the blocks of its first statements, for some number of them, and then the line of its status.
+pub fn a_run_is_blocks_and_a_line()
+    ensures { (does : ℕ → Catalog → Statement → Outcome) (number : ℕ) (catalog : Catalog) (statements : List Statement) (out : List ℕ) (status : Status)
+        → Run does [] number catalog statements out status → IsRunOf does number catalog statements out status }
+{}
