@@ -2,3 +2,4 @@ pub mod PartMoves
 pub mod Bags
 pub mod Places
 pub mod SlotSteps
+pub mod LongTexts

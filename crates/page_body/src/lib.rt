@@ -1,7 +1,9 @@
 //! What a page's body is, and the pool of pages as one worker sees it.
 #![tactic(auto)]
 
+mod base;
 mod body;
+pub mod clients;
 mod fault;
 mod mem_page;
 mod mem_pages;
@@ -10,6 +12,7 @@ mod open;
 mod pages;
 mod slot;
 
+pub use base::base_of;
 pub use body::PageBody;
 pub use fault::PoolFault;
 pub use mem_page::{MemPage, MemPin};
