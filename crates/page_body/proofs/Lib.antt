@@ -3,3 +3,4 @@ pub mod Bags
 pub mod Places
 pub mod SlotSteps
 pub mod LongTexts
+pub mod Kept
