@@ -2,3 +2,5 @@ pub mod PartMoves
 pub mod Bags
 pub mod Places
 pub mod SlotSteps
+pub mod LongTexts
+pub mod Kept

@@ -1,5 +1,6 @@
 -- What a body has, and what its changes make of it.
 use Rattle.std.specs.Prelude.{◌≡◌, ℕ, List, [], length, slice_set, Option, Some, None, ⊤, IsSome}
+use Rattle.ooc_io.specs.Counts.{raised}
 use Rattle.ooc_io.specs.declared.ticket.Ticket.{Ticket}
 use Rattle.evict_ring.specs.declared.frame.Frame.{Frame}
 use Rattle.row_image.specs.declared.layout.CellKind.{CellKind}
@@ -79,3 +80,11 @@ IsRebased kinds part base (Resident old ticket) (Resting ticket') = ⊥
 IsRebased kinds part base (Resident old ticket) (Dead frame) = ⊥
 IsRebased kinds part base (Resting ticket) new = ⊥
 IsRebased kinds part base (Dead frame) new = ⊥
+
+-- a count of successful writes, after a body that had no ticket was written
+abbrev pub writes_for : Option Ticket → ℕ → ℕ
+writes_for (Some ticket) count = count
+writes_for None count = raised count
+
+abbrev pub writes_more : PageBody → ℕ → ℕ
+writes_more body count = writes_for (ticket_of body) count

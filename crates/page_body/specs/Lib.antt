@@ -9,3 +9,4 @@ pub mod PageSize
 pub mod Slots
 pub mod SlotLaws
 pub mod MemView
+pub mod Clients

@@ -1,8 +1,11 @@
 //! What a page's body is, and the pool of pages as one worker sees it.
 #![tactic(auto)]
 
+mod base;
 mod body;
+pub mod clients;
 mod fault;
+mod lanes;
 mod mem_page;
 mod mem_pages;
 mod moves;
@@ -10,8 +13,10 @@ mod open;
 mod pages;
 mod slot;
 
+pub use base::base_of;
 pub use body::PageBody;
 pub use fault::PoolFault;
+pub use lanes::{load_from, written};
 pub use mem_page::{MemPage, MemPin};
 pub use mem_pages::MemPages;
 pub use open::OpenPage;
