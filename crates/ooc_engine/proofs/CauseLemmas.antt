@@ -37,13 +37,14 @@ use Rattle.ooc_engine.specs.Meaning.{Outcome, Gives, Stops, outcome, created, co
 use Rattle.ooc_engine.specs.Script.{Script, script_of, IsTree, IsOpened, IsOpenedWith}
 use Rattle.ooc_engine.specs.Says.{MayCut, Says, ends_after, run_ends, script_ends}
 use Rattle.ooc_engine.specs.Causes.{IsFormOf, LacksScript, HasNoScript, HasScript, LacksFile, HasNoRows, HasRows, Comes, refusals, HasCause}
+use Rattle.ooc_engine.specs.Plain.{asks, table_of}
 use Rattle.ooc_engine.proofs.FormLemmas.{same_bytes}
 use Rattle.ooc_engine.proofs.FormFound.{one_script}
 use Rattle.ooc_engine.proofs.RunLemmas.{ended}
 use Rattle.ooc_engine.proofs.Top.{IsSaid}
 
 -- a table that was put under a name is found there
-at_put : (catalog : Catalog) (name : List ℕ) (t : Table) → table_at (with_table catalog name t) name ≡ Some t
+pub at_put : (catalog : Catalog) (name : List ℕ) (t : Table) → table_at (with_table catalog name t) name ≡ Some t
 at_put catalog name t =
     let small = str_to_ascii_lowercase name in
     get-insert nat_list_cmp_total catalog small t small
@@ -56,30 +57,27 @@ plain_columns (column ∷ columns) h =
     let here : is_plain column ≡ true = (and_parts _ _ (and_parts _ _ (and_parts _ _ h).0).0).1 in
     rw here (plain_columns columns (and_parts _ _ h).1)
 
-form_table : (f : Form) → is_formed f ≡ true → is_table f.columns ≡ true
+pub form_table : (f : Form) → is_formed f ≡ true → is_table f.columns ≡ true
 form_table f h =
     let named = (and_parts _ _ (and_parts _ _ h).0) in
     let counted : is_count (length f.columns) ≡ true = (and_parts _ _ named.0).1 in
     let columns : are_columns f.columns ≡ true = (and_parts _ _ named.1).0 in
     rw counted (plain_columns f.columns columns)
 
-abbrev asks : Form → Filter
-asks f = record { column = f.column; sign = f.sign; number = number_of f.digits }
-
-form_asked : (f : Form) → is_formed f ≡ true → is_asked f.columns f.names (asks f) ≡ true
+pub form_asked : (f : Form) → is_formed f ≡ true → is_asked f.columns f.names (asks f) ≡ true
 form_asked f h = (and_parts _ _ (and_parts _ _ h).1).0
 
 -- How a script of a form ends, by its file.
-abbrev ends_with : Option (List (List Value)) → List Status
+abbrev pub ends_with : Option (List (List Value)) → List Status
 ends_with None = refused 2 Whole NotBuilt ∷ []
 ends_with (Some rows) = Done ∷ []
 
-abbrev ends_over : Form → Option (List ℕ) → List Status
+abbrev pub ends_over : Form → Option (List ℕ) → List Status
 ends_over f None = refused 2 (Record 0 0) NoFile ∷ []
 ends_over f (Some bytes) = ends_with (file_rows f.columns bytes)
 
 abbrev empty_table : Form → Table
-empty_table f = record { schema = f.columns; rows = [] }
+empty_table f = table_of f []
 
 module _ (s : Settings) (held : Held) (f : Form) (formed : is_formed f ≡ true) where
   abbrev asking : List Statement
@@ -108,7 +106,7 @@ module _ (s : Settings) (held : Held) (f : Form) (formed : is_formed f ≡ true)
       ap (λ (t : Option Table). ends_after (copied 2 catalog f.table t (get held f.file)) (λ next. run_ends (outcome s held) 3 next asking)) at
       ∙ ends_file catalog (get held f.file)
 
-  ends_of_form : run_ends (outcome s held) 1 no_tables (statements_of f) ≡ ends_over f (get held f.file)
+  pub ends_of_form : run_ends (outcome s held) 1 no_tables (statements_of f) ≡ ends_over f (get held f.file)
   unfolding outcome
   ends_of_form =
       ap (λ (t : Option Table). ends_after (created 1 no_tables f.table f.columns t) (λ next. run_ends (outcome s held) 2 next loading)) (get-empty (slice_cmp nat_cmp) (str_to_ascii_lowercase f.table))
@@ -128,7 +126,7 @@ one_of : (x y : Status) → Contains (x ∷ []) y → y ≡ x
 one_of x y (zero, h, is) = sym is
 one_of x y (suc k, h, is) = absurd (omega (arith, h))
 
-as_form : (bytes : List ℕ) (form : Form) → IsFormOf bytes form → IsScript bytes (statements_of form)
+pub as_form : (bytes : List ℕ) (form : Form) → IsFormOf bytes form → IsScript bytes (statements_of form)
 as_form bytes form h = record { form = form; short = h.short; spelled = h.spelled; formed = h.formed; are = refl }
 
 module _ (words : List (List ℕ)) (held : Held) where
@@ -171,6 +169,10 @@ one_opened_with (Ok set) held a b x y = x.2 ∙ ap (script_of set) (one_tree (ge
 
 pub one_opened : (words : List (List ℕ)) (held : Held) (a b : Result Script Status) → IsOpened words held a → IsOpened words held b → a ≡ b
 one_opened words held a b x y = one_opened_with (settings words) held a b x y
+
+pub opened_by : (words : List (List ℕ)) (held : Held) (set : Settings) → settings words ≡ Ok set → (file : Option (List ℕ)) → get held set.script ≡ file → (tree : Result (List Statement) RefusalKind) → IsTree file tree → IsOpened words held (script_of set tree)
+opened_by words held set named file there tree is =
+    subst (λ (r : Result Settings UsageFault). IsOpenedWith r held (script_of set tree)) (sym named) (tree, subst (λ (o : Option (List ℕ)). IsTree o tree) (sym there) is, refl)
 
 -- numbers by which statuses are told apart
 abbrev kind_number : RefusalKind → ℕ
@@ -264,23 +266,19 @@ module _ (words : List (List ℕ)) (held : Held) (out : List ℕ) (result : Stat
         | inr other ↦ inr other
       ]
 
-  opened_by : (set : Settings) → settings words ≡ Ok set → (file : Option (List ℕ)) → get held set.script ≡ file → (tree : Result (List Statement) RefusalKind) → IsTree file tree → IsOpened words held (script_of set tree)
-  opened_by set named file there tree is =
-      subst (λ (r : Result Settings UsageFault). IsOpenedWith r held (script_of set tree)) (sym named) (tree, subst (λ (o : Option (List ℕ)). IsTree o tree) (sym there) is, refl)
-
   stays_form : (form : Form) (due : Status) → HasScript words held form → ends_over form (get held form.file) ≡ due ∷ [] → EndedAs due
   stays_form form due h ends =
-      stays (script_of h.set (Ok (statements_of form))) due (opened_by h.set h.named (Some h.bytes) h.there (Ok (statements_of form)) (as_form h.bytes form h.is)) (ends_of_form h.set held form h.is.formed ∙ ends)
+      stays (script_of h.set (Ok (statements_of form))) due (opened_by words held h.set h.named (Some h.bytes) h.there (Ok (statements_of form)) (as_form h.bytes form h.is)) (ends_of_form h.set held form h.is.formed ∙ ends)
 
   pub causes : HasCause words held result
   causes = record {
     no_script = record {
       only = λ is. by_no_script words held (is_due number (script_refused NoFile) (λ may. may) refl is);
-      there = λ c. stays (script_of c.set (Err NoFile)) (script_refused NoFile) (opened_by c.set c.named None c.lacks (Err NoFile) refl) refl;
+      there = λ c. stays (script_of c.set (Err NoFile)) (script_refused NoFile) (opened_by words held c.set c.named None c.lacks (Err NoFile) refl) refl;
     };
     not_a_script = record {
       only = λ is. by_not_a_script words held (is_due number (script_refused NotBuilt) (λ may. may) refl is);
-      there = λ c. stays (script_of c.set (Err NotBuilt)) (script_refused NotBuilt) (opened_by c.set c.named (Some c.bytes) c.there (Err NotBuilt) (refl, c.unread)) refl;
+      there = λ c. stays (script_of c.set (Err NotBuilt)) (script_refused NotBuilt) (opened_by words held c.set c.named (Some c.bytes) c.there (Err NotBuilt) (refl, c.unread)) refl;
     };
     no_file = record {
       only = λ is. by_no_file words held (is_due number (refused 2 (Record 0 0) NoFile) (λ may. may) refl is);

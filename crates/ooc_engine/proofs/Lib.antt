@@ -5,6 +5,7 @@ pub mod CountedLemmas
 pub mod Opened
 pub mod Top
 pub mod CauseLemmas
+pub mod PlainLemmas
 pub mod SplitLemmas
 pub mod PageLemmas
 pub mod TableLemmas

@@ -18,3 +18,4 @@ pub mod Says
 pub mod Counted
 pub mod Ends
 pub mod Causes
+pub mod Plain

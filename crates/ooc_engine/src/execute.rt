@@ -24,7 +24,7 @@ use std::alloc::Global;
 /// The bytes of the longest file.
 const MOST: usize = 1_048_576;
 
-fn refused(statement: u32, place: Place, kind: RefusalKind) -> Status
+pub fn refused(statement: u32, place: Place, kind: RefusalKind) -> Status
     ensures { result ≡ refused statement place kind }
 {
     Status::Refused(Refusal {
@@ -34,7 +34,7 @@ fn refused(statement: u32, place: Place, kind: RefusalKind) -> Status
     })
 }
 
-fn not_built(statement: u32) -> Status
+pub fn not_built(statement: u32) -> Status
     ensures { result ≡ refused statement Place.Whole RefusalKind.NotBuilt }
 {
     refused(statement, Place::Whole, RefusalKind::NotBuilt)

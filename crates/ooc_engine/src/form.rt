@@ -214,7 +214,7 @@ fn form_of_parts(alloc: Global, front: &[u8], file: &[u8], back: &[u8]) -> Resul
 }
 
 // The form that a script's bytes spell.
-fn form_of(alloc: Global, text: &[u8]) -> Result<Form, FormStop>
+pub fn form_of(alloc: Global, text: &[u8]) -> Result<Form, FormStop>
     ensures { Reads (form_of text.now) result }
 {
     let parts = parts_at_quotes(alloc, text)?;
@@ -225,7 +225,7 @@ fn form_of(alloc: Global, text: &[u8]) -> Result<Form, FormStop>
 }
 
 // Whether what it names is named well.
-fn is_formed(form: &Form) -> bool
+pub fn is_formed(form: &Form) -> bool
     ensures { result ≡ is_formed form.now }
 {
     let columns = form.columns.as_slice();

@@ -20,8 +20,9 @@ pub fn an_opening_is_one()
     ensures { (words : List (List ℕ)) (held : Held) (a b : Result Script Status) → IsOpened words held a → IsOpened words held b → a ≡ b }
 {}
 
-/// What a run writes are the blocks of its first statements, for some number of them, and then the line of its status.
+/// What a run may write is, for one number of statements, the blocks of so many first ones and then the line of its
+/// status, and nothing else.
 pub fn a_run_is_blocks_and_a_line()
     ensures { (does : ℕ → Catalog → Statement → Outcome) (number : ℕ) (catalog : Catalog) (statements : List Statement) (out : List ℕ) (status : Status)
-        → Run does [] number catalog statements out status → IsRunOf does number catalog statements out status }
+        → Run does [] number catalog statements out status ↔ IsRunOf does number catalog statements out status }
 {}

@@ -41,7 +41,7 @@ fn load_text(alloc: Global, table: &mut Table, text: &[u8]) -> Result<(), FormSt
 
 // Whether a record may be dropped as a file's first: it has a byte, no carriage return, no double quote and no byte
 // order mark.
-fn is_header(header: &[u8]) -> bool
+pub fn is_header(header: &[u8]) -> bool
     ensures { result ≡ is_header header.now }
 {
     header.len() >= 1 && !has_quote_or_return(header) && !header.starts_with(b"\xEF\xBB\xBF")
@@ -125,7 +125,7 @@ fn add<'a>(cell: CellIn<'a>, cells: &mut Vec<CellIn<'a>>) -> Result<(), OutOfMem
 }
 
 // 1 to 12 of a to z and 0 to 9.
-fn is_short_text(field: &[u8]) -> bool
+pub fn is_short_text(field: &[u8]) -> bool
     ensures { result ≡ is_made_of (λ byte. is_small byte || is_digit byte) 12 field.now }
 {
     is_short(field) && are_plain(field)

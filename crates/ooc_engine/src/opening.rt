@@ -19,7 +19,7 @@ use std::alloc::Global;
 /// The bytes of the longest script.
 const MOST: usize = 1_048_576;
 
-fn script_refused(kind: RefusalKind) -> Status
+pub fn script_refused(kind: RefusalKind) -> Status
     ensures { result ≡ script_refused kind }
 {
     Status::Refused(Refusal {

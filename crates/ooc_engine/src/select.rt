@@ -84,7 +84,7 @@ fn places_of(alloc: Global, columns: &[Column], names: &[Text]) -> Result<Vec<u3
 }
 
 // Adds the line of the names.
-fn push_names(names: &[Text], into: &mut Vec<u8>) -> Result<(), OutOfMemory>
+pub fn push_names(names: &[Text], into: &mut Vec<u8>) -> Result<(), OutOfMemory>
     ensures { OnOk result (into.new.items ≡ into.old.items ++ line_text (map field_text names.now)) }
 {
     push_all_names(names, into)?;
@@ -227,7 +227,7 @@ fn passes(test: &Test, cell: Cell) -> bool
     }
 }
 
-fn compares(sign: Sign, left: i128, right: i128) -> bool
+pub fn compares(sign: Sign, left: i128, right: i128) -> bool
     ensures { result ≡ compares sign left right }
 {
     match sign {

@@ -259,6 +259,36 @@ fn a_run_writes_what_its_script_says(rt: HostRuntime) -> Result<(), Fail> {
     Ok(())
 }
 
+/// Runs a script over its file in both ways, over pages and plainly.
+fn run_twice<R: Threads + Wait + Sync + Abort>(
+    rt: &R,
+    alloc: Global,
+    script: &str,
+    csv: Option<&str>,
+) -> Result<(), Fail> {
+    let mut files = files(alloc, Some(script), csv, Vec::new(alloc))?;
+    let mut sink = MemSink::new_sink(alloc, Vec::new(alloc), 65536)?;
+    let status = run(rt, alloc, &["s.sql"], &mut files, &mut sink)?;
+    let file = match csv {
+        Some(csv) => Some(csv.as_bytes()),
+        None => None,
+    };
+    let (plain, out) = plain_run(alloc, script.as_bytes(), file)?;
+    assert_eq!(rt; sink.bytes(), out.as_slice(), "{script}");
+    assert_eq!(rt; status, plain, "{script}");
+    Ok(())
+}
+
+#[test]
+fn a_run_over_pages_is_the_plain_run(rt: HostRuntime) -> Result<(), Fail> {
+    let alloc = rt.alloc();
+    for (script, csv, _, _) in &CASES {
+        run_twice(&rt, alloc, script, Some(csv))?;
+        run_twice(&rt, alloc, script, None)?;
+    }
+    Ok(())
+}
+
 /// Words, whether script and file are there, the failing calls of the files, the exit status, and what is written.
 static OPENINGS: [(&[&str], bool, bool, u64, u8, &str); 12] = [
     (&[], true, true, 0, 2, USAGE),
