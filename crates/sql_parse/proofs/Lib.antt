@@ -10,6 +10,7 @@ mod Rules
 mod Exact
 mod Turning
 mod Deeper
+mod Going
 mod Lists
 mod Scripts
 mod Unique

@@ -1,6 +1,5 @@
 -- Where an item may be `name "." "*"`, an expression stops at the `*`. No other rule has such a choice.
 use Rattle.std.proofs.Common.{◌≡◌, ◌==◌, ℕ, List, [], ◌∷◌, Err, Bool, true, false, refl, sym, ap, subst, arith, if◌then◌else◌}
-use Rattle.sql_lex.specs.declared.token.Word.TheVariants as w
 use Rattle.sql_lex.specs.declared.token.Sign.TheVariants as s
 use Rattle.sql_parse.specs.Lexeme.{Lexeme, is_among}
 use Rattle.sql_parse.specs.declared.fault.Fault.TheVariants.{Syntax}
@@ -8,7 +7,6 @@ use Rattle.sql_parse.specs.Form.{Sort, Form, empty, one, both, either, many, nes
 use Rattle.sql_parse.specs.Reading.{Readers, read}
 use Rattle.sql_parse.specs.Sound.{◌and◌}
 use Rattle.sql_parse.specs.Classes.{sign_class, names}
-use Rattle.sql_parse.specs.Combinators.{◌>>◌, word}
 use Rattle.sql_parse.specs.Expressions as e
 use Rattle.sql_parse.specs.Selects as q
 use Rattle.sql_parse.specs.Statements as t
@@ -102,37 +100,40 @@ module _ (n : Readers) where
   unfolding q.item
   item_tame = (tt, (value_item_tame, stops))
 
-  sources_tame : IsTame n (word w.From >> q.sources)
-  unfolding e.literal e.column_name e.named e.group e.atom e.unary e.term_sign e.term_link e.term e.sum_sign e.sum_link e.sum e.compare_sign e.comparison e.null_test e.like e.one_of e.between e.constant e.range_test e.test e.pred e.neg e.and_operand e.conj e.or_operand e.expr q.alias q.condition q.subquery q.subquery_source q.source q.join_word q.join q.sources q.direction q.key_column q.key q.filter q.grouping q.having q.ordering q.limit q.offset
-  sources_tame = plain n (word w.From >> q.sources) refl
+  sources_tame : IsTame n q.sources
+  unfolding e.literal e.column_name e.named e.group e.atom e.unary e.term_sign e.term_link e.term e.sum_sign e.sum_link e.sum e.compare_sign e.comparison e.null_test e.like e.one_of e.between e.constant e.range_test e.test e.pred e.neg e.and_operand e.conj e.or_operand e.expr q.alias q.condition q.subquery_source q.source q.join_word q.join q.sources q.direction q.key_column q.key q.filter q.grouping q.having q.ordering q.limit q.offset
+  sources_tame = plain n q.sources refl
 
   filter_tame : IsTame n (q.filter)
-  unfolding e.literal e.column_name e.named e.group e.atom e.unary e.term_sign e.term_link e.term e.sum_sign e.sum_link e.sum e.compare_sign e.comparison e.null_test e.like e.one_of e.between e.constant e.range_test e.test e.pred e.neg e.and_operand e.conj e.or_operand e.expr q.alias q.condition q.subquery q.subquery_source q.source q.join_word q.join q.sources q.direction q.key_column q.key q.filter q.grouping q.having q.ordering q.limit q.offset
+  unfolding e.literal e.column_name e.named e.group e.atom e.unary e.term_sign e.term_link e.term e.sum_sign e.sum_link e.sum e.compare_sign e.comparison e.null_test e.like e.one_of e.between e.constant e.range_test e.test e.pred e.neg e.and_operand e.conj e.or_operand e.expr q.alias q.condition q.subquery_source q.source q.join_word q.join q.sources q.direction q.key_column q.key q.filter q.grouping q.having q.ordering q.limit q.offset
   filter_tame = plain n (q.filter) refl
 
   grouping_tame : IsTame n (q.grouping)
-  unfolding e.literal e.column_name e.named e.group e.atom e.unary e.term_sign e.term_link e.term e.sum_sign e.sum_link e.sum e.compare_sign e.comparison e.null_test e.like e.one_of e.between e.constant e.range_test e.test e.pred e.neg e.and_operand e.conj e.or_operand e.expr q.alias q.condition q.subquery q.subquery_source q.source q.join_word q.join q.sources q.direction q.key_column q.key q.filter q.grouping q.having q.ordering q.limit q.offset
+  unfolding e.literal e.column_name e.named e.group e.atom e.unary e.term_sign e.term_link e.term e.sum_sign e.sum_link e.sum e.compare_sign e.comparison e.null_test e.like e.one_of e.between e.constant e.range_test e.test e.pred e.neg e.and_operand e.conj e.or_operand e.expr q.alias q.condition q.subquery_source q.source q.join_word q.join q.sources q.direction q.key_column q.key q.filter q.grouping q.having q.ordering q.limit q.offset
   grouping_tame = plain n (q.grouping) refl
 
   having_tame : IsTame n (q.having)
-  unfolding e.literal e.column_name e.named e.group e.atom e.unary e.term_sign e.term_link e.term e.sum_sign e.sum_link e.sum e.compare_sign e.comparison e.null_test e.like e.one_of e.between e.constant e.range_test e.test e.pred e.neg e.and_operand e.conj e.or_operand e.expr q.alias q.condition q.subquery q.subquery_source q.source q.join_word q.join q.sources q.direction q.key_column q.key q.filter q.grouping q.having q.ordering q.limit q.offset
+  unfolding e.literal e.column_name e.named e.group e.atom e.unary e.term_sign e.term_link e.term e.sum_sign e.sum_link e.sum e.compare_sign e.comparison e.null_test e.like e.one_of e.between e.constant e.range_test e.test e.pred e.neg e.and_operand e.conj e.or_operand e.expr q.alias q.condition q.subquery_source q.source q.join_word q.join q.sources q.direction q.key_column q.key q.filter q.grouping q.having q.ordering q.limit q.offset
   having_tame = plain n (q.having) refl
 
   ordering_tame : IsTame n (q.ordering)
-  unfolding e.literal e.column_name e.named e.group e.atom e.unary e.term_sign e.term_link e.term e.sum_sign e.sum_link e.sum e.compare_sign e.comparison e.null_test e.like e.one_of e.between e.constant e.range_test e.test e.pred e.neg e.and_operand e.conj e.or_operand e.expr q.alias q.condition q.subquery q.subquery_source q.source q.join_word q.join q.sources q.direction q.key_column q.key q.filter q.grouping q.having q.ordering q.limit q.offset
+  unfolding e.literal e.column_name e.named e.group e.atom e.unary e.term_sign e.term_link e.term e.sum_sign e.sum_link e.sum e.compare_sign e.comparison e.null_test e.like e.one_of e.between e.constant e.range_test e.test e.pred e.neg e.and_operand e.conj e.or_operand e.expr q.alias q.condition q.subquery_source q.source q.join_word q.join q.sources q.direction q.key_column q.key q.filter q.grouping q.having q.ordering q.limit q.offset
   ordering_tame = plain n (q.ordering) refl
 
   limit_tame : IsTame n (q.limit)
-  unfolding e.literal e.column_name e.named e.group e.atom e.unary e.term_sign e.term_link e.term e.sum_sign e.sum_link e.sum e.compare_sign e.comparison e.null_test e.like e.one_of e.between e.constant e.range_test e.test e.pred e.neg e.and_operand e.conj e.or_operand e.expr q.alias q.condition q.subquery q.subquery_source q.source q.join_word q.join q.sources q.direction q.key_column q.key q.filter q.grouping q.having q.ordering q.limit q.offset
+  unfolding e.literal e.column_name e.named e.group e.atom e.unary e.term_sign e.term_link e.term e.sum_sign e.sum_link e.sum e.compare_sign e.comparison e.null_test e.like e.one_of e.between e.constant e.range_test e.test e.pred e.neg e.and_operand e.conj e.or_operand e.expr q.alias q.condition q.subquery_source q.source q.join_word q.join q.sources q.direction q.key_column q.key q.filter q.grouping q.having q.ordering q.limit q.offset
   limit_tame = plain n (q.limit) refl
 
   offset_tame : IsTame n (q.offset)
-  unfolding e.literal e.column_name e.named e.group e.atom e.unary e.term_sign e.term_link e.term e.sum_sign e.sum_link e.sum e.compare_sign e.comparison e.null_test e.like e.one_of e.between e.constant e.range_test e.test e.pred e.neg e.and_operand e.conj e.or_operand e.expr q.alias q.condition q.subquery q.subquery_source q.source q.join_word q.join q.sources q.direction q.key_column q.key q.filter q.grouping q.having q.ordering q.limit q.offset
+  unfolding e.literal e.column_name e.named e.group e.atom e.unary e.term_sign e.term_link e.term e.sum_sign e.sum_link e.sum e.compare_sign e.comparison e.null_test e.like e.one_of e.between e.constant e.range_test e.test e.pred e.neg e.and_operand e.conj e.or_operand e.expr q.alias q.condition q.subquery_source q.source q.join_word q.join q.sources q.direction q.key_column q.key q.filter q.grouping q.having q.ordering q.limit q.offset
   offset_tame = plain n (q.offset) refl
 
   select_tame : IsTame n q.select
   unfolding q.select
-  select_tame = ((((((((((tt, tt), ((tt, tt), tt)), ((tt, item_tame), (tt, item_tame))), sources_tame), filter_tame), grouping_tame), having_tame), ordering_tame), limit_tame), offset_tame)
+  select_tame = (
+    ((tt, ((((tt, tt), ((tt, tt), tt)), ((tt, item_tame), (tt, item_tame))), tt)), sources_tame),
+    ((tt, (((tt, filter_tame), grouping_tame), having_tame)), (((tt, ordering_tame), limit_tame), offset_tame)),
+  )
 
   pub body_tame : (s : Sort) → IsTame n (body s)
   unfolding e.literal e.column_name e.named e.group e.atom e.unary e.term_sign e.term_link e.term e.sum_sign e.sum_link e.sum e.compare_sign e.comparison e.null_test e.like e.one_of e.between e.constant e.range_test e.test e.pred e.neg e.and_operand e.conj e.or_operand e.expr e.argument

@@ -58,12 +58,18 @@ constant = (λ minus literal. record { minus = minus; literal = literal }) <$> o
 unfoldable pub column_name : Form ColumnName
 column_name = column_of <$> name <*> optional (sign s.Dot >> name)
 
+-- "(" ( "*" | expr ) ")", behind a function's name
+abbrev pub called : Form (Span → Expr)
+called = nest (sign_class s.LeftParenthesis) an_argument (λ _ argument name. e.Call name argument) <* sign s.RightParenthesis
+
+-- [ "." name ], behind the name of a column or of its source
+abbrev pub column_end : Form (Span → Expr)
+column_end = ((λ second first. e.Column (record { source = Some first; name = second })) <$> (sign s.Dot >> name))
+    or empty (λ first. e.Column (record { source = None; name = first }))
+
 -- name | name "." name | name "(" ( "*" | expr ) ")"
 unfoldable pub named : Form Expr
-named = follows <$> name <*> (
-    ((λ second first. e.Column (record { source = Some first; name = second })) <$> (sign s.Dot >> name))
-    or (nest (sign_class s.LeftParenthesis) an_argument (λ _ argument first. e.Call first argument) <* sign s.RightParenthesis)
-    or empty (λ first. e.Column (record { source = None; name = first })))
+named = follows <$> name <*> (called or column_end)
 
 -- "(" expr ")"
 unfoldable pub group : Form Expr
@@ -118,9 +124,17 @@ like = (λ place pattern negated left. e.Like place negated left pattern) <$> wo
 unfoldable pub one_of : Form (Bool → Expr → Expr)
 one_of = (λ place list negated left. e.OneOf place negated left list) <$> word w.In <*> parenthesized (list constant)
 
+-- AND sum
+abbrev pub upper : Form Expr
+upper = word w.And >> sum
+
+-- BETWEEN sum AND sum: its place, and both bounds
+abbrev pub bounds : Form (ℕ × Expr × Expr)
+bounds = (λ place low high. (place, low, high)) <$> word w.Between <*> sum <*> upper
+
 -- BETWEEN sum AND sum
 unfoldable pub between : Form (Bool → Expr → Expr)
-between = (λ place low high negated left. e.Between place negated left low high) <$> word w.Between <*> sum <*> word w.And >> sum
+between = (λ bounds negated left. e.Between bounds.0 negated left bounds.1 bounds.2) <$> bounds
 
 -- [ NOT ] LIKE text | [ NOT ] IN "(" const { "," const } ")" | [ NOT ] BETWEEN sum AND sum
 unfoldable pub range_test : Form (Expr → Expr)

@@ -1,5 +1,5 @@
 -- The grammar of selects.
-use Rattle.std.specs.Prelude.{List, [], ◌∷◌, Option, Bool, true, false}
+use Rattle.std.specs.Prelude.{ℕ, List, [], ◌∷◌, Option, Bool, true, false}
 use Rattle.sql_lex.specs.declared.token.Word.TheVariants as w
 use Rattle.sql_lex.specs.declared.token.Sign.TheVariants as s
 use Rattle.sql_parse.specs.declared.tree.expr.Span.{Span}
@@ -37,12 +37,13 @@ item = token (sign_class s.Star) (λ x. i.Star x.start) or phrase names (sign_cl
 unfoldable pub condition : Form Condition
 condition = marked (λ x test. record { place = x.start; test = test }) expr
 
-unfoldable pub subquery : Form (Span → Source)
-subquery = nest (sign_class s.LeftParenthesis) a_select (λ x query alias. o.Query x.start query alias) <* sign s.RightParenthesis
+-- ")" [ AS ] name
+abbrev pub query_end : Form Span
+query_end = sign s.RightParenthesis >> has (word w.As) >> name
 
 -- "(" select ")" [ AS ] name
 unfoldable pub subquery_source : Form Source
-subquery_source = subquery <*> has (word w.As) >> name
+subquery_source = nest (sign_class s.LeftParenthesis) a_select (λ x query alias. o.Query x.start query alias) <*> query_end
 
 -- source = name [ [ AS ] name ] | "(" select ")" [ AS ] name
 unfoldable pub source : Form Source
@@ -52,9 +53,16 @@ source = subquery_source or ((λ name alias. o.Table name alias) <$> name <*> al
 unfoldable pub join_word : Form Bool
 join_word = ((λ _. true) <$> word w.Left >> has (word w.Outer) >> word w.Join) or ((λ _. false) <$> has (word w.Inner) >> word w.Join)
 
+-- ON expr: its place, and the condition
+abbrev pub join_end : Form (ℕ × Condition)
+join_end = (λ place on. (place, on)) <$> word w.On <*> condition
+
+abbrev pub join_of : Bool → Source → ℕ × Condition → Join
+join_of outer source end = record { outer = outer; source = source; place = end.0; on = end.1 }
+
 -- ( [ INNER ] JOIN | LEFT [ OUTER ] JOIN ) source ON expr
 unfoldable pub join : Form Join
-join = (λ outer source place on. record { outer = outer; source = source; place = place; on = on }) <$> join_word <*> source <*> word w.On <*> condition
+join = join_of <$> join_word <*> source <*> join_end
 
 -- a source alone is itself
 abbrev pub sources_of : Source → List Join → Sources
@@ -101,18 +109,37 @@ limit = optional (word w.Limit >> integer)
 unfoldable pub offset : Form (Option Span)
 offset = optional (word w.Offset >> integer)
 
+-- SELECT [ DISTINCT ] item { "," item } FROM: the place, whether DISTINCT is there, and the items
+abbrev pub shown : Form (ℕ × Bool × List Item)
+shown = (λ place distinct items. (place, distinct, items)) <$> word w.Select <*> has (word w.Distinct) <*> list item <* word w.From
+
+-- [ WHERE expr ] [ GROUP BY expr { "," expr } ] [ HAVING expr ]
+abbrev pub conditions : Form (Option Condition × List Expr × Option Condition)
+conditions = (λ filter group having. (filter, group, having)) <$> filter <*> grouping <*> having
+
+-- [ ORDER BY key { "," key } ] [ LIMIT int ] [ OFFSET int ]
+abbrev pub window : Form (List Key × Option Span × Option Span)
+window = (λ order limit offset. (order, limit, offset)) <$> ordering <*> limit <*> offset
+
+-- what may stand behind the sources
+abbrev pub clauses : Form ((Option Condition × List Expr × Option Condition) × (List Key × Option Span × Option Span))
+clauses = (λ conditions window. (conditions, window)) <$> conditions <*> window
+
+abbrev pub select_of : ℕ × Bool × List Item → Sources → (Option Condition × List Expr × Option Condition) × (List Key × Option Span × Option Span) → Select
+select_of shown sources clauses = record {
+  place = shown.0;
+  distinct = shown.1;
+  items = shown.2;
+  sources = sources;
+  filter = clauses.0.0;
+  group = clauses.0.1;
+  having = clauses.0.2;
+  order = clauses.1.0;
+  limit = clauses.1.1;
+  offset = clauses.1.2;
+}
+
 -- select = SELECT [ DISTINCT ] item { "," item } FROM from [ WHERE expr ] [ GROUP BY expr { "," expr } ] [ HAVING expr ]
 --          [ ORDER BY key { "," key } ] [ LIMIT int ] [ OFFSET int ]
 unfoldable pub select : Form Select
-select = (λ place distinct items sources filter group having order limit offset. record {
-  place = place;
-  distinct = distinct;
-  items = items;
-  sources = sources;
-  filter = filter;
-  group = group;
-  having = having;
-  order = order;
-  limit = limit;
-  offset = offset;
-}) <$> word w.Select <*> has (word w.Distinct) <*> list item <*> word w.From >> sources <*> filter <*> grouping <*> having <*> ordering <*> limit <*> offset
+select = select_of <$> shown <*> sources <*> clauses

@@ -246,7 +246,7 @@ pub(crate) fn offset(cursor: &mut Cursor<'_>, depth: u8) -> Result<Option<Span>,
 }
 
 /// Whether a subquery comes next.
-#[tactic(auto, unfolding(crate::specs::Selects::subquery_source, crate::specs::Selects::subquery))]
+#[tactic(auto, unfolding(crate::specs::Selects::subquery_source))]
 pub(crate) fn at_subquery(cursor: &Cursor<'_>) -> bool
     ensures { result ≡ begins form.subquery_source (first cursor.now) }
 {
@@ -277,4 +277,85 @@ pub(crate) fn join_word(cursor: &mut Cursor<'_>, depth: u8) -> Result<bool, Faul
     }
     cursor.word(Word::Join)?;
     Ok(outer)
+}
+
+/// `")" [ AS ] name`
+pub(crate) fn query_end(cursor: &mut Cursor<'_>, depth: u8) -> Result<Span, Fault>
+    ensures gives { Gives (read (readers depth) form.query_end cursor.old) result cursor.new }
+    ensures shrinks { length cursor.new ≤ length cursor.old }
+{
+    cursor.sign(Sign::RightParenthesis)?;
+    cursor.skip_word(Word::As);
+    cursor.name()
+}
+
+/// `ON expr`
+pub(crate) fn join_end(
+    alloc: Global,
+    cursor: &mut Cursor<'_>,
+    depth: u8,
+) -> Result<(usize, Condition), Fault>
+    ensures gives { Gives (read (readers depth) form.join_end cursor.old) result cursor.new }
+    ensures shrinks { length cursor.new ≤ length cursor.old }
+{
+    let place = cursor.word(Word::On)?;
+    let on = condition(alloc, cursor, depth)?;
+    Ok((place, on))
+}
+
+/// The place of SELECT, whether DISTINCT is there, and the items.
+pub(crate) type Shown = (usize, bool, Items<Item>);
+
+/// `SELECT [ DISTINCT ] item { "," item } FROM`
+pub(crate) fn shown(alloc: Global, cursor: &mut Cursor<'_>, depth: u8) -> Result<Shown, Fault>
+    ensures gives { Gives (read (readers depth) form.shown cursor.old) result cursor.new }
+    ensures shrinks { length cursor.new ≤ length cursor.old }
+{
+    let place = cursor.word(Word::Select)?;
+    let distinct = cursor.skip_word(Word::Distinct);
+    let items = items(alloc, cursor, depth)?;
+    cursor.word(Word::From)?;
+    Ok((place, distinct, items))
+}
+
+/// Those of WHERE, GROUP BY and HAVING.
+type Conditions = (Option<Condition>, Items<Boxed<Expr>>, Option<Condition>);
+
+/// `[ WHERE expr ] [ GROUP BY expr { "," expr } ] [ HAVING expr ]`
+fn conditions(alloc: Global, cursor: &mut Cursor<'_>, depth: u8) -> Result<Conditions, Fault>
+    ensures gives { Gives (read (readers depth) form.conditions cursor.old) result cursor.new }
+    ensures shrinks { length cursor.new ≤ length cursor.old }
+{
+    let filter = filter(alloc, cursor, depth)?;
+    let group = grouping(alloc, cursor, depth)?;
+    let having = having(alloc, cursor, depth)?;
+    Ok((filter, group, having))
+}
+
+/// The keys of ORDER BY, and what LIMIT and OFFSET say.
+type Window = (Items<Key>, Option<Span>, Option<Span>);
+
+/// `[ ORDER BY key { "," key } ] [ LIMIT int ] [ OFFSET int ]`
+fn window(alloc: Global, cursor: &mut Cursor<'_>, depth: u8) -> Result<Window, Fault>
+    ensures gives { Gives (read (readers depth) form.window cursor.old) result cursor.new }
+    ensures shrinks { length cursor.new ≤ length cursor.old }
+{
+    let order = ordering(alloc, cursor, depth)?;
+    let limit = limit(cursor, depth)?;
+    let offset = offset(cursor, depth)?;
+    Ok((order, limit, offset))
+}
+
+/// What may stand behind the sources.
+pub(crate) fn clauses(
+    alloc: Global,
+    cursor: &mut Cursor<'_>,
+    depth: u8,
+) -> Result<(Conditions, Window), Fault>
+    ensures gives { Gives (read (readers depth) form.clauses cursor.old) result cursor.new }
+    ensures shrinks { length cursor.new ≤ length cursor.old }
+{
+    let conditions = conditions(alloc, cursor, depth)?;
+    let window = window(alloc, cursor, depth)?;
+    Ok((conditions, window))
 }

@@ -8,14 +8,16 @@ ghost use Rattle.sql_parse.specs.Expressions as form;
 
 use crate::cursor::Cursor;
 use crate::fault::Fault;
-use crate::leaves::{compare_sign, literal, sum_sign, term_sign};
+use crate::leaves::{column, compare_sign, literal_node, sum_sign, term_sign};
 use crate::looks::{
     at_and, at_comparison, at_group, at_like, at_named, at_null_test, at_one_of, at_or,
     at_range_test, at_sum_sign, at_term_sign,
 };
-use crate::nodes::{chain, either, every};
+use crate::nodes::{
+    Bounds, bounded, call, chain, closed, compared, either, every, minus, negation, ranged,
+};
 use crate::predicates::{like, null_test, one_of};
-use crate::tree::{Argument, ColumnName, Expr, Link, Operand};
+use crate::tree::{Argument, Expr, Link, Operand};
 use sql_lex::{Sign, Word};
 use sqlite_items::{Boxed, Items};
 use std::alloc::Global;
@@ -81,9 +83,8 @@ fn group(alloc: Global, cursor: &mut Cursor<'_>, depth: u8) -> Result<Boxed<Expr
     if !cursor.at_sign(Sign::LeftParenthesis) {
         return Err(Fault::Syntax);
     }
-    let found = nested_expr(alloc, cursor, depth)?;
-    cursor.sign(Sign::RightParenthesis)?;
-    Ok(found)
+    let inner = nested_expr(alloc, cursor, depth);
+    closed(cursor, inner)
 }
 
 /// What stands between a function's parentheses.
@@ -109,22 +110,11 @@ fn named(alloc: Global, cursor: &mut Cursor<'_>, depth: u8) -> Result<Boxed<Expr
     ensures shrinks { length cursor.new ≤ length cursor.old }
 {
     let name = cursor.name()?;
-    if cursor.at_sign(Sign::Dot) {
-        cursor.shift();
-        let column = cursor.name()?;
-        let node = Expr::Column(ColumnName {
-            source: Some(name),
-            name: column,
-        });
-        return Ok(Boxed::new(alloc, node)?);
+    if !cursor.at_sign(Sign::LeftParenthesis) {
+        return column(alloc, cursor, name, depth);
     }
-    if cursor.at_sign(Sign::LeftParenthesis) {
-        let argument = nested_argument(alloc, cursor, depth)?;
-        cursor.sign(Sign::RightParenthesis)?;
-        return Ok(Boxed::new(alloc, Expr::Call { name, argument })?);
-    }
-    let node = Expr::Column(ColumnName { source: None, name });
-    Ok(Boxed::new(alloc, node)?)
+    let argument = nested_argument(alloc, cursor, depth);
+    call(alloc, cursor, name, argument)
 }
 
 #[cycle(expr)]
@@ -138,8 +128,7 @@ fn atom(alloc: Global, cursor: &mut Cursor<'_>, depth: u8) -> Result<Boxed<Expr>
     } else if at_group(cursor) {
         group(alloc, cursor, depth)
     } else {
-        let literal = literal(cursor, depth)?;
-        Ok(Boxed::new(alloc, Expr::Literal(literal))?)
+        literal_node(alloc, cursor, depth)
     }
 }
 
@@ -152,10 +141,9 @@ fn unary(alloc: Global, cursor: &mut Cursor<'_>, depth: u8) -> Result<Boxed<Expr
     if !cursor.at_sign(Sign::Minus) {
         return atom(alloc, cursor, depth);
     }
-    let place = cursor.span().start;
-    let operand = nested_unary(alloc, cursor, depth)?;
-    let node = Expr::Minus { place, operand };
-    Ok(Boxed::new(alloc, node)?)
+    let span = cursor.span();
+    let operand = nested_unary(alloc, cursor, depth);
+    minus(alloc, span.start, operand)
 }
 
 #[cycle(expr)]
@@ -191,8 +179,8 @@ fn term(alloc: Global, cursor: &mut Cursor<'_>, depth: u8) -> Result<Boxed<Expr>
     ensures shrinks { length cursor.new ≤ length cursor.old }
 {
     let first = unary(alloc, cursor, depth)?;
-    let links = term_links(alloc, cursor, depth)?;
-    Ok(chain(alloc, first, links)?)
+    let links = term_links(alloc, cursor, depth);
+    chain(alloc, first, links)
 }
 
 #[cycle(expr)]
@@ -228,8 +216,8 @@ fn sum(alloc: Global, cursor: &mut Cursor<'_>, depth: u8) -> Result<Boxed<Expr>,
     ensures shrinks { length cursor.new ≤ length cursor.old }
 {
     let first = term(alloc, cursor, depth)?;
-    let links = sum_links(alloc, cursor, depth)?;
-    Ok(chain(alloc, first, links)?)
+    let links = sum_links(alloc, cursor, depth);
+    chain(alloc, first, links)
 }
 
 #[cycle(expr)]
@@ -244,14 +232,30 @@ fn comparison(
     ensures shrinks { length cursor.new ≤ length cursor.old }
 {
     let (sign, place) = compare_sign(cursor, depth)?;
-    let right = sum(alloc, cursor, depth)?;
-    let node = Expr::Compare {
-        place,
-        sign,
-        left,
-        right,
-    };
-    Ok(Boxed::new(alloc, node)?)
+    let right = sum(alloc, cursor, depth);
+    compared(alloc, left, sign, place, right)
+}
+
+/// `AND sum`
+#[cycle(expr)]
+fn upper(alloc: Global, cursor: &mut Cursor<'_>, depth: u8) -> Result<Boxed<Expr>, Fault>
+    ensures gives { Gives (read (readers depth) form.upper cursor.old) result cursor.new }
+    ensures shrinks { length cursor.new ≤ length cursor.old }
+{
+    cursor.word(Word::And)?;
+    sum(alloc, cursor, depth)
+}
+
+/// `BETWEEN sum AND sum`
+#[cycle(expr)]
+fn bounds(alloc: Global, cursor: &mut Cursor<'_>, depth: u8) -> Result<Bounds, Fault>
+    ensures gives { Gives (read (readers depth) form.bounds cursor.old) result cursor.new }
+    ensures shrinks { length cursor.new ≤ length cursor.old }
+{
+    let place = cursor.word(Word::Between)?;
+    let low = sum(alloc, cursor, depth)?;
+    let high = upper(alloc, cursor, depth);
+    bounded(place, low, high)
 }
 
 #[cycle(expr)]
@@ -266,18 +270,8 @@ fn between(
     ensures gives { Gives (and_then (read (readers depth) form.between cursor.old) (λ test r. Ok (test negated left, r))) result cursor.new }
     ensures shrinks { length cursor.new ≤ length cursor.old }
 {
-    let place = cursor.word(Word::Between)?;
-    let low = sum(alloc, cursor, depth)?;
-    cursor.word(Word::And)?;
-    let high = sum(alloc, cursor, depth)?;
-    let node = Expr::Between {
-        place,
-        negated,
-        operand: left,
-        low,
-        high,
-    };
-    Ok(Boxed::new(alloc, node)?)
+    let bounds = bounds(alloc, cursor, depth);
+    ranged(alloc, left, negated, bounds)
 }
 
 /// LIKE, IN or BETWEEN, with or without NOT.
@@ -344,10 +338,9 @@ fn neg(alloc: Global, cursor: &mut Cursor<'_>, depth: u8) -> Result<Boxed<Expr>,
     if !cursor.at_word(Word::Not) {
         return pred(alloc, cursor, depth);
     }
-    let place = cursor.span().start;
-    let operand = nested_neg(alloc, cursor, depth)?;
-    let node = Expr::Not { place, operand };
-    Ok(Boxed::new(alloc, node)?)
+    let span = cursor.span();
+    let operand = nested_neg(alloc, cursor, depth);
+    negation(alloc, span.start, operand)
 }
 
 #[cycle(expr)]
@@ -383,8 +376,8 @@ fn conj(alloc: Global, cursor: &mut Cursor<'_>, depth: u8) -> Result<Boxed<Expr>
     ensures shrinks { length cursor.new ≤ length cursor.old }
 {
     let first = neg(alloc, cursor, depth)?;
-    let others = and_operands(alloc, cursor, depth)?;
-    Ok(every(alloc, first, others)?)
+    let others = and_operands(alloc, cursor, depth);
+    every(alloc, first, others)
 }
 
 #[cycle(expr)]
@@ -420,6 +413,6 @@ pub(crate) fn expr(alloc: Global, cursor: &mut Cursor<'_>, depth: u8) -> Result<
     ensures shrinks { length cursor.new ≤ length cursor.old }
 {
     let first = conj(alloc, cursor, depth)?;
-    let others = or_operands(alloc, cursor, depth)?;
-    Ok(either(alloc, first, others)?)
+    let others = or_operands(alloc, cursor, depth);
+    either(alloc, first, others)
 }

@@ -16,7 +16,7 @@ pub enum ParseFault {
 }
 
 /// Why a rule doesn't go on. The cursor stands at the token where.
-#[derive(Clone, Copy, Debug, PartialEq, Eq)]
+#[derive(Clone, Copy)]
 pub(crate) enum Fault {
     Syntax,
     TooDeep,

@@ -1,14 +1,17 @@
 //! Parts of expressions in which nothing nests: literals, constants, names of columns, and signs.
-ghost use Rattle.std.specs.Prelude.{◌≤◌, ◌<◌, length, IsOk};
-ghost use Rattle.sql_parse.specs.Reading.{read};
+ghost use Rattle.std.specs.Prelude.{◌≤◌, ◌<◌, length, IsOk, Ok};
+ghost use Rattle.sql_parse.specs.Reading.{read, and_then};
 ghost use Rattle.sql_parse.specs.Nesting.{readers};
 ghost use Rattle.sql_parse.specs.Whole.{Gives};
 ghost use Rattle.sql_parse.specs.Expressions as form;
+ghost use Rattle.sql_parse.specs.declared.tree.expr.Expr.TheVariants as node;
 
 use crate::cursor::{Cursor, DECIMAL, INTEGER, TEXT};
 use crate::fault::Fault;
-use crate::tree::{ChainSign, ColumnName, CompareSign, Constant, Literal};
+use crate::tree::{ChainSign, ColumnName, CompareSign, Constant, Expr, Literal, Span};
 use sql_lex::{Sign, Word};
+use sqlite_items::Boxed;
+use std::alloc::Global;
 
 #[tactic(auto, unfolding(crate::specs::Expressions::literal))]
 pub(crate) fn literal(cursor: &mut Cursor<'_>, depth: u8) -> Result<Literal, Fault>
@@ -28,6 +31,40 @@ pub(crate) fn literal(cursor: &mut Cursor<'_>, depth: u8) -> Result<Literal, Fau
     } else {
         Err(Fault::Syntax)
     }
+}
+
+/// A literal as an expression.
+pub(crate) fn literal_node(
+    alloc: Global,
+    cursor: &mut Cursor<'_>,
+    depth: u8,
+) -> Result<Boxed<Expr>, Fault>
+    ensures gives { Gives (and_then (read (readers depth) form.literal cursor.old) (λ l r. Ok (node.Literal l, r))) result cursor.new }
+    ensures shrinks { length cursor.new ≤ length cursor.old }
+{
+    let literal = literal(cursor, depth)?;
+    Ok(Boxed::new(alloc, Expr::Literal(literal))?)
+}
+
+/// A column, behind its name or that of its source.
+pub(crate) fn column(
+    alloc: Global,
+    cursor: &mut Cursor<'_>,
+    name: Span,
+    depth: u8,
+) -> Result<Boxed<Expr>, Fault>
+    ensures gives { Gives (and_then (read (readers depth) form.column_end cursor.old) (λ f r. Ok (f name, r))) result cursor.new }
+    ensures shrinks { length cursor.new ≤ length cursor.old }
+{
+    let mut column = ColumnName { source: None, name };
+    if cursor.at_sign(Sign::Dot) {
+        cursor.shift();
+        column = ColumnName {
+            source: Some(name),
+            name: cursor.name()?,
+        };
+    }
+    Ok(Boxed::new(alloc, Expr::Column(column))?)
 }
 
 #[tactic(auto, unfolding(crate::specs::Expressions::constant))]

@@ -17,6 +17,3 @@ pub mod tree;
 
 pub use fault::ParseFault;
 pub use script::parse;
-
-#[cfg(test)]
-mod tests;

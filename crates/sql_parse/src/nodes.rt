@@ -1,19 +1,31 @@
-//! Nodes of several operands.
-ghost use Rattle.std.specs.Prelude.{◌≡◌, IfOk};
+//! Nodes, made of what was read: the fault of a part that wasn't is handed on.
+ghost use Rattle.std.specs.Prelude.{◌≤◌, length, Ok};
+ghost use Rattle.sql_parse.specs.Reading.{and_then, read};
+ghost use Rattle.sql_parse.specs.Combinators as parts;
+ghost use Rattle.sql_parse.specs.Nesting.{readers};
+ghost use Rattle.sql_parse.specs.Whole.{Makes, GoesOn};
 ghost use Rattle.sql_parse.specs.Expressions as form;
+ghost use Rattle.sql_parse.specs.declared.tree.expr.Expr.TheVariants as node;
 
-use crate::tree::{Expr, Link, Operand};
+use crate::cursor::Cursor;
+use crate::fault::Fault;
+use crate::tree::{Argument, CompareSign, Expr, Link, Operand, Span};
+use sql_lex::Sign;
 use sqlite_items::{Boxed, Items};
-use std::alloc::{AllocError, Global};
+use std::alloc::Global;
+
+/// The place of BETWEEN, and what is behind it.
+pub(crate) type Bounds = (usize, Boxed<Expr>, Boxed<Expr>);
 
 /// A chain of sums or terms; one operand alone is itself.
 pub(crate) fn chain(
     alloc: Global,
     first: Boxed<Expr>,
-    links: Items<Link>,
-) -> Result<Boxed<Expr>, AllocError>
-    ensures { IfOk result (λ e. e ≡ form.chain_of first links) }
+    links: Result<Items<Link>, Fault>,
+) -> Result<Boxed<Expr>, Fault>
+    ensures { Makes (form.chain_of first) links result }
 {
+    let links = links?;
     if links.is_empty() {
         return Ok(first);
     }
@@ -25,10 +37,11 @@ pub(crate) fn chain(
 pub(crate) fn every(
     alloc: Global,
     first: Boxed<Expr>,
-    others: Items<Operand>,
-) -> Result<Boxed<Expr>, AllocError>
-    ensures { IfOk result (λ e. e ≡ form.every_of first others) }
+    others: Result<Items<Operand>, Fault>,
+) -> Result<Boxed<Expr>, Fault>
+    ensures { Makes (form.every_of first) others result }
 {
+    let others = others?;
     if others.is_empty() {
         return Ok(first);
     }
@@ -40,13 +53,120 @@ pub(crate) fn every(
 pub(crate) fn either(
     alloc: Global,
     first: Boxed<Expr>,
-    others: Items<Operand>,
-) -> Result<Boxed<Expr>, AllocError>
-    ensures { IfOk result (λ e. e ≡ form.either_of first others) }
+    others: Result<Items<Operand>, Fault>,
+) -> Result<Boxed<Expr>, Fault>
+    ensures { Makes (form.either_of first) others result }
 {
+    let others = others?;
     if others.is_empty() {
         return Ok(first);
     }
     let node = Expr::Either { first, others };
     Ok(Boxed::new(alloc, node)?)
+}
+
+/// A minus before an operand; `place` is where it stands.
+pub(crate) fn minus(
+    alloc: Global,
+    place: usize,
+    operand: Result<Boxed<Expr>, Fault>,
+) -> Result<Boxed<Expr>, Fault>
+    ensures { Makes (λ e. node.Minus place e) operand result }
+{
+    let operand = operand?;
+    let node = Expr::Minus { place, operand };
+    Ok(Boxed::new(alloc, node)?)
+}
+
+/// NOT before an operand.
+pub(crate) fn negation(
+    alloc: Global,
+    place: usize,
+    operand: Result<Boxed<Expr>, Fault>,
+) -> Result<Boxed<Expr>, Fault>
+    ensures { Makes (λ e. node.Not place e) operand result }
+{
+    let operand = operand?;
+    let node = Expr::Not { place, operand };
+    Ok(Boxed::new(alloc, node)?)
+}
+
+/// A comparison with what is on its right.
+pub(crate) fn compared(
+    alloc: Global,
+    left: Boxed<Expr>,
+    sign: CompareSign,
+    place: usize,
+    right: Result<Boxed<Expr>, Fault>,
+) -> Result<Boxed<Expr>, Fault>
+    ensures { Makes (λ e. node.Compare place sign left e) right result }
+{
+    let right = right?;
+    let node = Expr::Compare {
+        place,
+        sign,
+        left,
+        right,
+    };
+    Ok(Boxed::new(alloc, node)?)
+}
+
+/// Both bounds of a range, and the place of BETWEEN.
+pub(crate) fn bounded(
+    place: usize,
+    low: Boxed<Expr>,
+    high: Result<Boxed<Expr>, Fault>,
+) -> Result<Bounds, Fault>
+    ensures { Makes (λ e. (place, low, e)) high result }
+{
+    let high = high?;
+    Ok((place, low, high))
+}
+
+/// A test of a range.
+pub(crate) fn ranged(
+    alloc: Global,
+    operand: Boxed<Expr>,
+    negated: bool,
+    bounds: Result<Bounds, Fault>,
+) -> Result<Boxed<Expr>, Fault>
+    ensures { Makes (λ b. node.Between b.0 negated operand b.1 b.2) bounds result }
+{
+    let (place, low, high) = bounds?;
+    let node = Expr::Between {
+        place,
+        negated,
+        operand,
+        low,
+        high,
+    };
+    Ok(Boxed::new(alloc, node)?)
+}
+
+/// What a closing parenthesis has to follow.
+pub(crate) fn closed(
+    cursor: &mut Cursor<'_>,
+    inner: Result<Boxed<Expr>, Fault>,
+) -> Result<Boxed<Expr>, Fault>
+    ensures goes_on { GoesOn (λ e r. and_then (read (readers 0) (parts.sign Sign.RightParenthesis) r) (λ _ s. Ok (e, s))) inner cursor.old result cursor.new }
+    ensures shrinks { length cursor.new ≤ length cursor.old }
+{
+    let inner = inner?;
+    cursor.sign(Sign::RightParenthesis)?;
+    Ok(inner)
+}
+
+/// A call, whose closing parenthesis has to follow.
+pub(crate) fn call(
+    alloc: Global,
+    cursor: &mut Cursor<'_>,
+    name: Span,
+    argument: Result<Argument, Fault>,
+) -> Result<Boxed<Expr>, Fault>
+    ensures goes_on { GoesOn (λ a r. and_then (read (readers 0) (parts.sign Sign.RightParenthesis) r) (λ _ s. Ok (node.Call name a, s))) argument cursor.old result cursor.new }
+    ensures shrinks { length cursor.new ≤ length cursor.old }
+{
+    let argument = argument?;
+    cursor.sign(Sign::RightParenthesis)?;
+    Ok(Boxed::new(alloc, Expr::Call { name, argument })?)
 }

@@ -3,14 +3,14 @@
 use sqlite_items::{Boxed, Items};
 
 /// A part of the script, in bytes from 0; `end` is the place behind it.
-#[derive(Clone, Copy, Debug, PartialEq, Eq)]
+#[derive(Clone, Copy)]
 pub struct Span {
     pub start: usize,
     pub end: usize,
 }
 
 /// A literal, where it stands. A text is written with its quotes.
-#[derive(Clone, Copy, Debug, PartialEq, Eq)]
+#[derive(Clone, Copy)]
 pub enum Literal {
     Integer(Span),
     Decimal(Span),
@@ -20,21 +20,21 @@ pub enum Literal {
 }
 
 /// A literal, and the place of the minus before it, if there is one.
-#[derive(Clone, Copy, Debug, PartialEq, Eq)]
+#[derive(Clone, Copy)]
 pub struct Constant {
     pub minus: Option<usize>,
     pub literal: Literal,
 }
 
 /// The name of a column, with its source's name if it has one.
-#[derive(Clone, Copy, Debug, PartialEq, Eq)]
+#[derive(Clone, Copy)]
 pub struct ColumnName {
     pub source: Option<Span>,
     pub name: Span,
 }
 
 /// The sign of a link of a sum or of a term.
-#[derive(Clone, Copy, Debug, PartialEq, Eq)]
+#[derive(Clone, Copy)]
 pub enum ChainSign {
     Plus,
     Minus,
@@ -44,7 +44,7 @@ pub enum ChainSign {
 }
 
 /// The sign of a comparison.
-#[derive(Clone, Copy, Debug, PartialEq, Eq)]
+#[derive(Clone, Copy)]
 pub enum CompareSign {
     Equal,
     Unequal,

@@ -74,14 +74,14 @@ pub struct Join {
 }
 
 /// A key of ORDER BY.
-#[derive(Clone, Copy, Debug, PartialEq, Eq)]
+#[derive(Clone, Copy)]
 pub struct Key {
     pub column: KeyColumn,
     pub descending: bool,
 }
 
 /// What a key of ORDER BY names.
-#[derive(Clone, Copy, Debug, PartialEq, Eq)]
+#[derive(Clone, Copy)]
 pub enum KeyColumn {
     /// The number of an item, from 1.
     Position(Span),

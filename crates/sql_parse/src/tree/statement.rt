@@ -30,7 +30,7 @@ pub enum Statement {
 }
 
 /// A column of a new table.
-#[derive(Clone, Copy, Debug, PartialEq, Eq)]
+#[derive(Clone, Copy)]
 pub struct Column {
     pub name: Span,
     pub kind: TypeName,
@@ -38,21 +38,21 @@ pub struct Column {
 }
 
 /// The name of a type, and what stands in parentheses after it.
-#[derive(Clone, Copy, Debug, PartialEq, Eq)]
+#[derive(Clone, Copy)]
 pub struct TypeName {
     pub name: Span,
     pub sizes: Option<Sizes>,
 }
 
 /// One or two integers after a type's name.
-#[derive(Clone, Copy, Debug, PartialEq, Eq)]
+#[derive(Clone, Copy)]
 pub struct Sizes {
     pub first: Span,
     pub second: Option<Span>,
 }
 
 /// An option of COPY; `place` is that of its word.
-#[derive(Clone, Copy, Debug, PartialEq, Eq)]
+#[derive(Clone, Copy)]
 pub enum CopyOption {
     Header { place: usize, value: bool },
     Delimiter { place: usize, text: Span },

@@ -49,41 +49,47 @@ decreases-sum l = 40 * l.depth + 9
 abbrev pub decreases-comparison : goal.decreases-comparison
 decreases-comparison l = 40 * l.depth + 10
 
+abbrev pub decreases-upper : goal.decreases-upper
+decreases-upper l = 40 * l.depth + 10
+
+abbrev pub decreases-bounds : goal.decreases-bounds
+decreases-bounds l = 40 * l.depth + 11
+
 abbrev pub decreases-between : goal.decreases-between
-decreases-between l = 40 * l.depth + 10
+decreases-between l = 40 * l.depth + 12
 
 abbrev pub decreases-range_test : goal.decreases-range_test
-decreases-range_test l = 40 * l.depth + 11
+decreases-range_test l = 40 * l.depth + 13
 
 abbrev pub decreases-test : goal.decreases-test
-decreases-test l = 40 * l.depth + 12
+decreases-test l = 40 * l.depth + 14
 
 abbrev pub decreases-pred : goal.decreases-pred
-decreases-pred l = 40 * l.depth + 13
+decreases-pred l = 40 * l.depth + 15
 
 abbrev pub decreases-neg : goal.decreases-neg
-decreases-neg l = 40 * l.depth + 14
+decreases-neg l = 40 * l.depth + 16
 
 abbrev pub decreases-and_operand : goal.decreases-and_operand
-decreases-and_operand l = 40 * l.depth + 15
+decreases-and_operand l = 40 * l.depth + 17
 
 abbrev pub decreases-and_operands : goal.decreases-and_operands
-decreases-and_operands l = 40 * l.depth + 16
+decreases-and_operands l = 40 * l.depth + 18
 
 abbrev pub decreases-conj : goal.decreases-conj
-decreases-conj l = 40 * l.depth + 17
+decreases-conj l = 40 * l.depth + 19
 
 abbrev pub decreases-or_operand : goal.decreases-or_operand
-decreases-or_operand l = 40 * l.depth + 18
+decreases-or_operand l = 40 * l.depth + 20
 
 abbrev pub decreases-or_operands : goal.decreases-or_operands
-decreases-or_operands l = 40 * l.depth + 19
+decreases-or_operands l = 40 * l.depth + 21
 
 abbrev pub decreases-expr : goal.decreases-expr
-decreases-expr l = 40 * l.depth + 20
+decreases-expr l = 40 * l.depth + 22
 
 abbrev pub decreases-argument : goal.decreases-argument
-decreases-argument l = 40 * l.depth + 21
+decreases-argument l = 40 * l.depth + 23
 
 abbrev pub invariant-term_links-turns : goal.invariant-term_links-turns
 invariant-term_links-turns l = record {
