@@ -12,7 +12,7 @@ ghost use Rattle.page_body.specs.Clients.{IsPlaced, PinsOwned, TwoPins, IsTextOf
 use crate::base::base_of;
 use crate::fault::PoolFault;
 use crate::pages::Pages;
-use row_image::{Cell, ImageKind, Layout, check_image, read_cell};
+use row_image::{Cell, ImageKind, Layout, check_image, part_count, part_of, read_cell};
 
 /// Seals a page with the bytes of an image. It answers None where the image breaks a rule of its kind.
 pub fn seal_copy<P: Pages>(
@@ -182,4 +182,64 @@ pub fn long_text<'a, P: Pages>(
         }
         _ => None,
     }
+}
+
+// Copies the long text of a cell, if it stands in the row page's first part and is as long as `into`.
+fn copy_pinned<P: Pages>(
+    pages: &P,
+    pins: &RowAndHeap<P::Pin>,
+    layout: &Layout,
+    row: u32,
+    column: u32,
+    into: &mut [u8],
+) -> bool
+    requires own { PinsOwned (P.view pages.now) pins.now.rows pins.now.heap }
+    requires kind { P.terms.kind (P.terms.under pins.now.rows) ≡ Rows layout.now }
+    requires heap_kind { P.terms.kind (P.terms.under pins.now.heap) ≡ Heap }
+    requires placed { IsPlaced P.terms (P.view pages.now).page_bytes pins.now.rows pins.now.heap }
+    requires column { column < length layout.now }
+    ensures { IsTrue P.terms.told → IsTrue result → IsTextOf P.terms layout.now (P.terms.under pins.now.rows) (P.terms.under pins.now.heap) row column into.new }
+{
+    let image = pages.bytes(&pins.rows);
+    if part_count(image) == 0 || row >= part_of(image, 0).rows {
+        return false;
+    }
+    match long_text(pages, pins, layout, row, column) {
+        Some(text) => {
+            if text.len() == into.len() {
+                into.copy_from_slice(text);
+                true
+            } else {
+                false
+            }
+        }
+        None => false,
+    }
+}
+
+/// Copies the long text of a cell from its heap page, which the caller says is that of the row page's first part. It
+/// answers false where the row isn't in that part, or the cell has no long text of this length.
+pub fn copy_text<P: Pages>(
+    pages: &mut P,
+    rows: &P::Page,
+    heap: &P::Page,
+    layout: &Layout,
+    row: u32,
+    column: u32,
+    into: &mut [u8],
+) -> Result<bool, PoolFault>
+    requires rows { (P.view pages.old).live rows.now }
+    requires heap { (P.view pages.old).live heap.now }
+    requires kind { P.terms.kind rows.now ≡ Rows layout.now }
+    requires heap_kind { P.terms.kind heap.now ≡ Heap }
+    requires alone { (P.view pages.old).pins (P.terms.id rows.now) ≡ 0 }
+    requires room { (P.view pages.old).held + 2 ≤ (P.view pages.old).grant }
+    requires column { column < length layout.now }
+    ensures text { IsTrue P.terms.told → IfOk result (λ found. IsTrue found → IsTextOf P.terms layout.now rows.now heap.now row column into.new) }
+    ensures kept { Kept (P.view pages.old) (P.view pages.new) }
+{
+    let pins = pin_rows(pages, rows, heap, layout)?;
+    let found = copy_pinned(pages, &pins, layout, row, column, into);
+    release(pages, pins);
+    Ok(found)
 }

@@ -4,7 +4,7 @@ ghost use Rattle.ooc_io.specs.Counts.{HasCause};
 ghost use Rattle.row_image.specs.Bytes.{IsPage};
 ghost use Rattle.row_image.specs.Rules.{IsAccepted};
 ghost use Rattle.row_image.specs.declared.image.ImageKind.{ImageKind};
-ghost use Rattle.page_body.specs.Bodies.{IsResident, CanRest, writes_more};
+ghost use Rattle.page_body.specs.Bodies.{IsResident, CanRest, image_of, writes_more};
 ghost use Rattle.page_body.specs.Stands.{StandsFor, ImageStands, TicketStands};
 ghost use Rattle.page_body.specs.Refusals.{ReadFails, RoomFails};
 
@@ -20,6 +20,7 @@ pub fn written<L: SpillLane>(lane: &mut L, body: &PageBody) -> Result<Option<Tic
     requires { IsResident body.now }
     ensures ready { IfOk result (CanRest body.now) }
     ensures stands { IfOk result (λ given. (kind : ImageKind) (content : List ℕ) → StandsFor L.Mark.tells kind content body.now → IfSome given (TicketStands L.Mark.tells kind content)) }
+    ensures keeps { IsTrue L.Mark.tells → IfOk result (λ given. IfSome given (λ ticket. ticket.kept ≡ Some (image_of body.now))) }
     ensures writes { OnOk result (L.writes lane.new ≡ writes_more body.now (L.writes lane.old)) }
     ensures unwritten { OnErr result (L.writes lane.new ≡ L.writes lane.old) }
     ensures later { L.writes lane.old ≤ L.writes lane.new }

@@ -21,3 +21,6 @@ pub use mem_page::{MemPage, MemPin};
 pub use mem_pages::MemPages;
 pub use open::OpenPage;
 pub use pages::Pages;
+
+#[cfg(test)]
+mod tests;

@@ -1,0 +1,216 @@
+//! Clients over a pool in memory, and a page that goes to a lane and comes back.
+ghost use Rattle.std.specs.Prelude.{◌≡◌, ◌+◌, ◌≤◌, ◌∷◌, [], IfOk, length};
+ghost use Rattle.row_image.specs.Bytes.{IsPage};
+ghost use Rattle.row_image.specs.Flat.{flat};
+ghost use Rattle.row_image.specs.Rules.{IsAccepted};
+ghost use Rattle.page_body.specs.Stands.{StandsFor};
+ghost use Rattle.page_body.specs.MemView.{mem_view};
+
+use super::clients::{copy_text, read_back, seal_copy, two_pages};
+use super::*;
+use evict_ring::Frame;
+use ooc_io::{LaneFault, MemLane, Silent, SpillFailed, SpillLane, Ticket};
+use row_image::{CellKind, Damage, DamageField, ImageKind, Layout, check_image};
+use std::alloc::Global;
+use std::test::Fail;
+
+fn put(image: &mut [u8; 4096], place: usize, bytes: &[u8])
+    requires long { length image.old ≡ 4096 }
+    requires room { place + length bytes.now ≤ 4096 }
+    ensures { length image.new ≡ 4096 }
+{
+    let image: &mut [u8] = image;
+    image[place..place + bytes.len()].copy_from_slice(bytes);
+}
+
+// A heap page with one text of 13 bytes, which lies behind its 64 bytes of head.
+fn heap_image() -> [u8; 4096]
+    ensures { length result ≡ 4096 }
+{
+    let mut image = [0; 4096];
+    put(&mut image, 0, &[2, 0, 0, 0, 13]);
+    put(&mut image, 64, b"Kopenhagen ..");
+    image
+}
+
+// One row with that text: 1 byte of mask, 8 of hash, and the cell of 16 bytes. Its part has the heap page 7 at the base
+// 20480, which is the fifth page's, so the address is 20544.
+fn row_image() -> [u8; 4096]
+    ensures { length result ≡ 4096 }
+{
+    let mut image = [0; 4096];
+    put(&mut image, 0, &[1, 0, 0, 0, 25, 0, 0, 0, 1, 0, 0, 0, 1]);
+    put(&mut image, 36, &[1, 0, 0, 0, 7, 0, 0, 0, 0, 0, 0, 0, 0, 80]);
+    put(
+        &mut image,
+        137,
+        &[13, 0, 0, 0, b'K', b'o', b'p', b'e', 64, 80],
+    );
+    image
+}
+
+fn one_text() -> Layout
+    ensures { result ≡ CellKind.Text ∷ [] }
+{
+    Layout::new_layout(&[CellKind::Text])
+}
+
+fn small_pool(alloc: Global) -> MemPages
+    ensures page { (mem_view result).page_bytes ≡ 4096 }
+    ensures grant { (mem_view result).grant ≡ 24 }
+    ensures held { (mem_view result).held ≡ 0 }
+{
+    MemPages::new_pages(alloc, 4096, 24)
+}
+
+#[test]
+fn pages_are_sealed_and_read_back(rt: HostRuntime) -> Result<(), Fail> {
+    let mut pages = small_pool(rt.alloc());
+    let mut first = heap_image();
+    let second = [2; 4096];
+    assert!(rt; two_pages(&mut pages, &mut first, &heap_image()) == Ok(true));
+    assert!(rt; first.as_slice() == heap_image().as_slice());
+    assert!(rt; two_pages(&mut pages, &mut first, &second) == Ok(false));
+    assert_eq!(rt; pages.held(), 0);
+    assert_eq!(rt; pages.grant(), 24);
+    assert_eq!(rt; pages.page_bytes(), 4096);
+    Ok(())
+}
+
+#[test]
+fn a_long_text_is_followed_to_its_heap_page(rt: HostRuntime) -> Result<(), Fail> {
+    let mut pages = small_pool(rt.alloc());
+    let layout = one_text();
+    let heap = match seal_copy(&mut pages, ImageKind::Heap, &heap_image()) {
+        Ok(Some(page)) => page,
+        _ => return Err(Fail::from("the heap page keeps the rules")),
+    };
+    let rows = match seal_copy(&mut pages, ImageKind::Rows(layout), &row_image()) {
+        Ok(Some(page)) => page,
+        _ => return Err(Fail::from("the row page keeps the rules")),
+    };
+    let mut text = [0; 13];
+    assert!(rt; copy_text(&mut pages, &rows, &heap, &layout, 0, 0, &mut text) == Ok(true));
+    assert!(rt; text.as_slice() == b"Kopenhagen ..".as_slice());
+    assert!(rt; copy_text(&mut pages, &rows, &heap, &layout, 1, 0, &mut text) == Ok(false));
+    let mut moved = [0; 4096];
+    assert!(rt; read_back(&mut pages, &rows, &mut moved) == Ok(()));
+    assert_eq!(rt; &moved[145..149], [64, 0, 0, 0].as_slice());
+    assert_eq!(rt; pages.held(), 0);
+    pages.retire(rows);
+    pages.retire(heap);
+    assert_eq!(rt; pages.held(), 0);
+    Ok(())
+}
+
+// A lane that tells nothing and gives back zeros.
+#[derive(Drop)]
+struct ZeroLane {
+    written: u64,
+}
+
+impl SpillLane for ZeroLane {
+    type Mark = Silent;
+
+    ghost writes = { λ l. l.written };
+
+    ghost faults = { λ _. 0 };
+
+    fn write(&mut self, _image: &[u8]) -> Result<Ticket, LaneFault> {
+        self.written = self.written.saturating_add(1);
+        Ok(Ticket::new_ticket(0, 0))
+    }
+
+    fn read(&mut self, _ticket: &Ticket, into: &mut [u8]) -> Result<(), SpillFailed> {
+        into.fill(0);
+        Ok(())
+    }
+
+    fn free(&mut self, _ticket: Ticket) {}
+}
+
+// Sends the page in a frame to a lane, empties the frame, and has the page come back into it.
+fn there_and_back<L: SpillLane>(
+    lane: &mut L,
+    kind: &ImageKind,
+    frame: Frame,
+) -> Result<PageBody, PoolFault>
+    requires page { IsPage (length frame.bytes.items) }
+    requires accepted { IsAccepted kind.now frame.bytes.items }
+    ensures { IfOk result (StandsFor L.Mark.tells kind.now (flat kind.now frame.bytes.items)) }
+{
+    let mut body = PageBody::Resident {
+        frame,
+        ticket: None,
+    };
+    let given = written(lane, &body)?;
+    let mut frame = body.rest(given);
+    match &body {
+        PageBody::Resting { ticket } => load_from(lane, ticket, kind, &mut frame)?,
+        _ => return Err(PoolFault::OutOfMemory),
+    }
+    body.install(frame);
+    Ok(body)
+}
+
+fn heap_sent<L: SpillLane>(alloc: Global, lane: &mut L) -> Result<PageBody, PoolFault> {
+    let bytes = match heap_image().to_vec(alloc) {
+        Ok(bytes) => bytes,
+        Err(_) => return Err(PoolFault::OutOfMemory),
+    };
+    if check_image(&ImageKind::Heap, &bytes).is_err() {
+        return Err(PoolFault::OutOfMemory);
+    }
+    there_and_back(lane, &ImageKind::Heap, Frame { number: 3, bytes })
+}
+
+#[test]
+fn a_page_goes_to_a_lane_and_comes_back(rt: HostRuntime) -> Result<(), Fail> {
+    let alloc = rt.alloc();
+    let none = Vec::new(alloc);
+    let mut lane = MemLane::new_lane(alloc, none, Vec::new(alloc));
+    match heap_sent(alloc, &mut lane) {
+        Ok(
+            PageBody::Resident {
+                frame,
+                ticket: Some(_),
+            },
+        ) => {
+            assert_eq!(rt; frame.number, 3);
+            assert!(rt; frame.bytes.as_slice() == heap_image().as_slice());
+        }
+        _ => assert!(rt; false, "the page is in its frame, beside its ticket"),
+    }
+    assert_eq!(rt; lane.write_count(), 1);
+    let mut lane = MemLane::new_lane(alloc, vec![in alloc; 1]?, vec![in alloc; 1]?);
+    assert!(rt; heap_sent(alloc, &mut lane).is_err_and(|fault| fault == PoolFault::Spill));
+    assert_eq!(rt; lane.write_count(), 0);
+    assert!(rt; heap_sent(alloc, &mut lane).is_err_and(|fault| fault == PoolFault::Spill));
+    assert_eq!(rt; lane.write_count(), 1);
+    let damage = Damage {
+        field: DamageField::Kind,
+        found: 0,
+        bound: 2,
+    };
+    let mut zeros = ZeroLane { written: 0 };
+    assert!(rt;
+        heap_sent(alloc, &mut zeros).is_err_and(|fault| fault == PoolFault::Damaged(damage))
+    );
+    Ok(())
+}
+
+#[test]
+fn a_dead_page_keeps_its_frame(rt: HostRuntime) -> Result<(), Fail> {
+    let alloc = rt.alloc();
+    let mut body = PageBody::Resident {
+        frame: Frame {
+            number: 9,
+            bytes: vec![in alloc; 1, 2]?,
+        },
+        ticket: Some(Ticket::new_ticket(0, 5)),
+    };
+    assert!(rt; body.kill().is_some_and(|ticket| ticket.place == 5));
+    assert!(rt; body.kill().is_none());
+    assert_eq!(rt; body.rest(None).number, 9);
+    Ok(())
+}
