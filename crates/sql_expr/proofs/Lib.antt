@@ -1,0 +1,6 @@
+pub mod Chains
+pub mod Exactness
+pub mod Forms
+pub mod Nodes
+pub mod Numbers
+pub mod Opened
