@@ -1,6 +1,11 @@
 pub mod Chains
 pub mod Exactness
 pub mod Forms
+pub mod Fronts
+pub mod Greedy
 pub mod Nodes
 pub mod Numbers
 pub mod Opened
+pub mod Taken
+pub mod Texts
+pub mod Truths

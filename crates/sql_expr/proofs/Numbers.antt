@@ -77,7 +77,7 @@ pub chain_result : (row : List Value) (e got first : Expr) (links ls : List Link
     → value_of row e ≡ number_meaning (scale_of (kind_of e)) r
 chain_result row e got first links ls kind left r is at kinds same value chain =
     let v : value_of row first ≡ Ok (number_value (scale_of (kind_of first)) left) =
-        subst (λ (g : Expr). value_of row g ≡ Ok (number_value (scale_of (kind_of g)) left)) at value in
+    subst (λ (g : Expr). value_of row g ≡ Ok (number_value (scale_of (kind_of g)) left)) at value in
     let c = subst (λ (k : SqlType). chain_from (Ok (number_value (scale_of k) left)) (map (plain_link row) ls) ≡ number_meaning (scale_of (last_kind k (map (λ link. link.kind) ls))) r) kinds chain in
     let d = subst (λ (x : List Link). chain_from (Ok (number_value (scale_of (kind_of first)) left)) (map (plain_link row) x) ≡ number_meaning (scale_of (last_kind (kind_of first) (map (λ link. link.kind) x))) r) same c in
     rw (chain_value row e first links is, chain_kind e first links is, v) d

@@ -89,7 +89,7 @@ opened row e x fits is =
       children = children_hold (IsTyped fits.columns) (every-Link (IsTypedNode fits.columns) AnyLink) (λ e. FitsRow e row)
           (λ e typed. record { columns = fits.columns; limit = fits.limit; typed = typed; meets = fits.meets })
           (λ l typed. record { columns = fits.columns; limit = fits.limit; typed = right_typed fits.columns l typed; meets = fits.meets })
-          x held.0 (held.1 ∙ is)
+          x held.0 (held.1 ∙ is);
     }
 
 -- the value of a column has the column's form

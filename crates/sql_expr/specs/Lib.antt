@@ -8,3 +8,4 @@ pub mod Kinds
 pub mod Typing
 pub mod Outcomes
 pub mod Ready
+pub mod Segments

@@ -84,8 +84,12 @@ abbrev pub liked : List ℕ → Value → Value
 liked pattern (Text bytes) = Truth (is_like (characters pattern) (characters bytes))
 liked pattern v = Null
 
+-- what IS NULL says where it is known whether the operand is NULL
+abbrev pub tested_null : Bool → Bool → Value
+tested_null negated null = Truth (if negated then not null else null)
+
 abbrev pub null_test : Bool → Value → Value
-null_test negated v = Truth (if negated then not (is_null v) else is_null v)
+null_test negated v = tested_null negated (is_null v)
 
 abbrev pub link_step : Link-F Meaning LinkMeaning → LinkMeaning
 link_step link = record { sign = link.sign; kind = link.kind; right = link.right }

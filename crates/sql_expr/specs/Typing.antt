@@ -1,5 +1,6 @@
 -- Expressions that are typed over columns.
-use Rattle.std.specs.Prelude.{◌≡◌, ◌⊎◌, ℕ, zero, suc, ℤ, pos, negsuc, ◌+◌, ◌-◌, ◌<◌, ◌≤◌, ◌^◌, max, List, [], ◌∷◌, All, slice_get, Option, Some, None, if◌then◌else◌, nat_le, nat_lt, ⊤}
+use Rattle.std.specs.Prelude.{◌≡◌, ◌⊎◌, ℕ, zero, suc, ℤ, pos, negsuc, ◌+◌, ◌-◌, ◌<◌, ◌≤◌, ◌^◌, max, List, [], ◌∷◌, slice_get, Option, Some, None, if◌then◌else◌, nat_le, nat_lt, ⊤}
+use Rattle.std.specs.List.{AllByRecursion}
 use Rattle.ooc_types.specs.declared.value.Value.{Value}
 use Rattle.ooc_types.specs.declared.value.Value.TheVariants.{Null, Truth, Number, Text}
 use Rattle.ooc_types.specs.declared.schema.SqlType.{SqlType}
@@ -12,7 +13,6 @@ use Rattle.sql_expr.specs.declared.tree.Expr.{Expr}
 use Rattle.sql_expr.specs.declared.tree.Link.{Link}
 use Rattle.sql_expr.specs.declared.tree.Expr.TheOpen.{Expr-F, Link-F}
 use Rattle.sql_expr.specs.declared.tree.Expr.TheFolds.{every-Expr}
-
 use Rattle.sql_expr.specs.Kinds.{kind_of}
 
 -- the wider of two types of integers
@@ -124,13 +124,13 @@ IsTypedNode columns (Expr-F.Constant value kind) = IsLiteral kind value
 IsTypedNode columns (Expr-F.Column place kind) = slice_get columns place ≡ Some kind
 IsTypedNode columns (Expr-F.Not of) = kind_of of ≡ Boolean
 IsTypedNode columns (Expr-F.Minus of kind) = IsNumeric kind × (kind_of of ≡ kind)
-IsTypedNode columns (Expr-F.Every list) = All (λ operand. kind_of operand ≡ Boolean) list
-IsTypedNode columns (Expr-F.Either list) = All (λ operand. kind_of operand ≡ Boolean) list
+IsTypedNode columns (Expr-F.Every list) = AllByRecursion (λ operand. kind_of operand ≡ Boolean) list
+IsTypedNode columns (Expr-F.Either list) = AllByRecursion (λ operand. kind_of operand ≡ Boolean) list
 IsTypedNode columns (Expr-F.Chain first links) = IsNumber (kind_of first) × AreLinks (kind_of first) links
 IsTypedNode columns (Expr-F.Compare sign left right) = IsComparable (kind_of left) (kind_of right)
 IsTypedNode columns (Expr-F.IsNull of negated) = ⊤
 IsTypedNode columns (Expr-F.Like of pattern negated) = kind_of of ≡ Varchar
-IsTypedNode columns (Expr-F.OneOf of list negated) = All (λ constant. IsComparable (kind_of of) (kind_of constant)) list
+IsTypedNode columns (Expr-F.OneOf of list negated) = AllByRecursion (λ constant. IsComparable (kind_of of) (kind_of constant)) list
 IsTypedNode columns (Expr-F.Between of low high negated) = IsComparable (kind_of of) (kind_of low) × IsComparable (kind_of of) (kind_of high)
 
 abbrev pub AnyLink : Link-F Expr Link → Type 0

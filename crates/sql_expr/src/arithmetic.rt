@@ -22,7 +22,13 @@ fn number_or_fault(number: Option<i128>) -> Result<Option<i128>, ValueFault>
 }
 
 #[tactic(auto, using(crate::proofs::Exactness::exact_told))]
-fn sum(a: i128, left: SqlType, b: i128, right: SqlType, kind: SqlType) -> Result<Option<i128>, ValueFault>
+fn sum(
+    a: i128,
+    left: SqlType,
+    b: i128,
+    right: SqlType,
+    kind: SqlType,
+) -> Result<Option<i128>, ValueFault>
     requires { IsLinked ChainSign.Plus left right kind }
     ensures { combined ChainSign.Plus kind a (scale_of left) b (scale_of right) ≡ number_meaning (scale_of kind) result }
 {
@@ -30,7 +36,13 @@ fn sum(a: i128, left: SqlType, b: i128, right: SqlType, kind: SqlType) -> Result
 }
 
 #[tactic(auto, using(crate::proofs::Exactness::exact_told))]
-fn difference(a: i128, left: SqlType, b: i128, right: SqlType, kind: SqlType) -> Result<Option<i128>, ValueFault>
+fn difference(
+    a: i128,
+    left: SqlType,
+    b: i128,
+    right: SqlType,
+    kind: SqlType,
+) -> Result<Option<i128>, ValueFault>
     requires { IsLinked ChainSign.Minus left right kind }
     ensures { combined ChainSign.Minus kind a (scale_of left) b (scale_of right) ≡ number_meaning (scale_of kind) result }
 {
@@ -38,7 +50,13 @@ fn difference(a: i128, left: SqlType, b: i128, right: SqlType, kind: SqlType) ->
 }
 
 #[tactic(auto, using(crate::proofs::Exactness::exact_told))]
-fn product(a: i128, left: SqlType, b: i128, right: SqlType, kind: SqlType) -> Result<Option<i128>, ValueFault>
+fn product(
+    a: i128,
+    left: SqlType,
+    b: i128,
+    right: SqlType,
+    kind: SqlType,
+) -> Result<Option<i128>, ValueFault>
     requires { IsLinked ChainSign.Times left right kind }
     ensures { combined ChainSign.Times kind a (scale_of left) b (scale_of right) ≡ number_meaning (scale_of kind) result }
 {
@@ -67,7 +85,14 @@ fn whole_remainder(a: i128, b: i128, kind: SqlType) -> Result<Option<i128>, Valu
     number_or_fault(remainder(a, b, kind))
 }
 
-fn combine(sign: ChainSign, kind: SqlType, a: i128, left: SqlType, b: i128, right: SqlType) -> Result<Option<i128>, ValueFault>
+fn combine(
+    sign: ChainSign,
+    kind: SqlType,
+    a: i128,
+    left: SqlType,
+    b: i128,
+    right: SqlType,
+) -> Result<Option<i128>, ValueFault>
     requires { IsLinked sign left right kind }
     ensures { combined sign kind a (scale_of left) b (scale_of right) ≡ number_meaning (scale_of kind) result }
 {

@@ -36,7 +36,13 @@ fn cmp_numbers(a: i128, a_scale: u8, b: i128, b_scale: u8) -> Ordering
     cmp_values(&left, &right)
 }
 
-fn compare_numbers(sign: CompareSign, a: Option<i128>, a_scale: u8, b: Option<i128>, b_scale: u8) -> Truth
+fn compare_numbers(
+    sign: CompareSign,
+    a: Option<i128>,
+    a_scale: u8,
+    b: Option<i128>,
+    b_scale: u8,
+) -> Truth
     ensures { truth_value result ≡ compared sign (number_value a_scale a) (number_value b_scale b) }
 {
     match (a, b) {
@@ -70,7 +76,12 @@ pub fn compare_truths(sign: CompareSign, a: Truth, b: Truth) -> Truth
 }
 
 /// The comparison of two expressions that are numbers.
-pub fn compare_amounts(sign: CompareSign, left: &Expr, right: &Expr, row: &[Value]) -> Result<Truth, ValueFault>
+pub fn compare_amounts(
+    sign: CompareSign,
+    left: &Expr,
+    right: &Expr,
+    row: &[Value],
+) -> Result<Truth, ValueFault>
     requires left_fits { FitsRow left.now row.now }
     requires left_number { IsNumber (type_of left.now) }
     requires right_fits { FitsRow right.now row.now }

@@ -9,7 +9,11 @@ mod logic;
 mod number;
 mod text;
 mod tree;
+mod truth;
+mod wildcards;
 
 pub use fault::{EvalFault, ValueFault};
 pub use kinds::kind_of;
 pub use tree::{ChainSign, CompareSign, Expr, Exprs, Link, Links};
+pub use truth::truth_of;
+pub use wildcards::like;

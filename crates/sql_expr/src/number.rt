@@ -16,21 +16,38 @@ use ooc_types::{SqlType, Value};
 
 // One link behind a number of the type.
 #[cycle(number)]
-fn number_link(left: Option<i128>, kind: SqlType, link: &Link, row: &[Value]) -> Result<Option<i128>, ValueFault>
+fn number_link(
+    left: Option<i128>,
+    kind: SqlType,
+    link: &Link,
+    row: &[Value],
+) -> Result<Option<i128>, ValueFault>
     requires fits { FitsRow link.now.right row.now }
     requires typed { IsLinked link.now.sign kind (type_of link.now.right) link.now.kind }
     ensures { linked (Ok (number_value (scale_of kind) left)) (plain_link row.now link.now)
         ≡ number_meaning (scale_of link.now.kind) result }
 {
     match number_of(&link.right, row) {
-        Ok(right) => apply(link.sign, link.kind, left, kind, right, kind_of(&link.right)),
+        Ok(right) => apply(
+            link.sign,
+            link.kind,
+            left,
+            kind,
+            right,
+            kind_of(&link.right),
+        ),
         Err(fault) => Err(fault),
     }
 }
 
 // A number of the type, and the links that act on it from left to right.
 #[cycle(number)]
-fn number_links(first: Option<i128>, kind: SqlType, links: &[Link], row: &[Value]) -> Result<Option<i128>, ValueFault>
+fn number_links(
+    first: Option<i128>,
+    kind: SqlType,
+    links: &[Link],
+    row: &[Value],
+) -> Result<Option<i128>, ValueFault>
     requires { AreReady row.now kind links.now }
     ensures { chain_from (Ok (number_value (scale_of kind) first)) (map (plain_link row.now) links.now)
         ≡ number_meaning (scale_of (last_kind kind (map (λ link. link.kind) links.now))) result }

@@ -10,8 +10,8 @@ use Rattle.sql_expr.proofs.arithmetic.whole_quotient.Goals as goal
 
 pub returns : goal.returns
 returns c =
-  let e = exact_told c.args.kind _ c.quotient.result c.quotient.ensures in
-  let fa = c.ranges.a in
-  let fb = c.ranges.b in
-  let f : exact c.args.kind (int_div c.args.a c.args.b) ≡ number_meaning (scale_of c.args.kind) (told c.quotient.result) = simp to_z-of_z at e in
-  unless_not_zero c.args.b (exact c.args.kind (int_div c.args.a c.args.b)) (λ h. c.if-b-eq0.false (ap (of_z w128) h)) ∙ f ∙ ap (number_meaning (scale_of c.args.kind)) (sym c.number_or_fault.ensures)
+    let e = exact_told c.args.kind _ c.quotient.result c.quotient.ensures in
+    let fa = c.ranges.a in
+    let fb = c.ranges.b in
+    let f : exact c.args.kind (int_div c.args.a c.args.b) ≡ number_meaning (scale_of c.args.kind) (told c.quotient.result) = simp to_z-of_z at e in
+    unless_not_zero c.args.b (exact c.args.kind (int_div c.args.a c.args.b)) (λ h. c.if-b-eq0.false (ap (of_z w128) h)) ∙ f ∙ ap (number_meaning (scale_of c.args.kind)) (sym c.number_or_fault.ensures)

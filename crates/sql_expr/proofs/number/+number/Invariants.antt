@@ -11,5 +11,5 @@ invariant-number_links-loop-link l = record {
   ready : AreReady l.row l.left_kind (drop l.link-index l.links);
   value : chain_from (Ok (number_value (scale_of l.left_kind) l.left)) (map (plain_link l.row) (drop l.link-index l.links))
       ≡ chain_from (Ok (number_value (scale_of l.fn.kind) l.fn.first)) (map (plain_link l.row) l.links);
-  kind : last_kind l.left_kind (map (λ link. link.kind) (drop l.link-index l.links)) ≡ last_kind l.fn.kind (map (λ link. link.kind) l.links)
+  kind : last_kind l.left_kind (map (λ link. link.kind) (drop l.link-index l.links)) ≡ last_kind l.fn.kind (map (λ link. link.kind) l.links);
 }
