@@ -1,7 +1,7 @@
 -- What the search for a pattern in a text finds.
 use Rattle.std.proofs.Common.{◌≡◌, ℕ, ◌+◌, ◌<◌, ◌≤◌, Bool, true, false, cond, nat_eq, List, [], ◌∷◌, refl, sym, ap, ◌∙◌, subst, arith, length}
 use Rattle.std.specs.Prelude.{Option, Some, None}
-use Rattle.std.proofs.lemmas.Bool.Decides.{Decides-eqb}
+use Rattle.std.proofs.lemmas.Bool.Decides.{Decides-eqb, nat_tests}
 use Rattle.sql_expr.specs.Characters.{characters}
 use Rattle.sql_expr.specs.Like.{is_percent, is_like, holds_behind_some, is_empty_text}
 use Rattle.sql_expr.specs.Segments.{Characters, left_over, like_behind}
@@ -14,7 +14,7 @@ none_left bytes h = characters_empty bytes ((Decides-eqb (length bytes) 0).0 (sy
 pub is_empty_is : (bytes : List ℕ) → is_empty_text (characters bytes) ≡ nat_eq (length bytes) 0
 unfolding characters
 is_empty_is [] = refl
-is_empty_is (byte ∷ bytes) = refl
+is_empty_is (byte ∷ bytes) = grind (arith, nat_tests)
 
 pub front_none : (pattern text next : Characters) (sign : List ℕ) → pattern ≡ sign ∷ next → is_percent sign ≡ false → text ≡ [] → left_over pattern text ≡ None
 front_none pattern text next sign parts other empty =

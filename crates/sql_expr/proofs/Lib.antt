@@ -6,6 +6,7 @@ pub mod Greedy
 pub mod Nodes
 pub mod Numbers
 pub mod Opened
+pub mod Steps
 pub mod Taken
 pub mod Texts
 pub mod Truths

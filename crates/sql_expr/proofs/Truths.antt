@@ -138,12 +138,3 @@ between_operands row e of low high o l h negated fits is at_o at_l at_h =
     let n = opened row e (Expr-F.Between of low high negated) fits is in
     subst (λ (x : Expr). Between row x l h) (sym at_o) (subst (λ (x : Expr). Between row of x h) (sym at_l) (subst (λ (x : Expr). Between row of low x) (sym at_h)
     (record { fits = n.children.0; low_fits = n.children.1; low_comparable = n.node.0; high_fits = n.children.2; high_comparable = n.node.1 })))
-
--- AND stops at false, and OR at true
-pub every_stops : (ms : List Meaning) → every_from (Ok (Truth false)) ms ≡ Ok (Truth false)
-every_stops [] = refl
-every_stops (m ∷ ms) = every_stops ms
-
-pub either_stops : (ms : List Meaning) → either_from (Ok (Truth true)) ms ≡ Ok (Truth true)
-either_stops [] = refl
-either_stops (m ∷ ms) = either_stops ms

@@ -105,7 +105,7 @@ fn every(list: &[Expr], row: &[Value]) -> Result<Truth, ValueFault>
             Ok(truth) => all = both(all, truth),
             Err(fault) => return Err(fault),
         }
-        if all == Truth::No {
+        if let Truth::No = all {
             return Ok(Truth::No);
         }
     }
@@ -124,7 +124,7 @@ fn either(list: &[Expr], row: &[Value]) -> Result<Truth, ValueFault>
             Ok(truth) => any = one(any, truth),
             Err(fault) => return Err(fault),
         }
-        if any == Truth::Yes {
+        if let Truth::Yes = any {
             return Ok(Truth::Yes);
         }
     }
@@ -144,7 +144,7 @@ fn one_of(of: &Expr, list: &[Expr], row: &[Value]) -> Result<Truth, ValueFault>
             Ok(truth) => any = one(any, truth),
             Err(fault) => return Err(fault),
         }
-        if any == Truth::Yes {
+        if let Truth::Yes = any {
             return Ok(Truth::Yes);
         }
     }

@@ -1,6 +1,7 @@
 use Rattle.std.proofs.Common.{◌≡◌, ◌≢◌, drop, map, Ok, true, false}
 use Rattle.std.specs.Prelude.{max, ◌+◌, ◌*◌}
 use Rattle.sql_expr.specs.declared.tree.Expr.{size-Expr}
+use denote.Param.Weighed.{most}
 use Rattle.ooc_types.specs.declared.truth.Truth.TheVariants.{Yes, No}
 use Rattle.ooc_types.specs.declared.value.Value.TheVariants.{Truth}
 use Rattle.sql_expr.specs.declared.tree.CompareSign.TheVariants.{Equal}
@@ -54,4 +55,4 @@ abbrev pub decreases-between : goal.decreases-between
 decreases-between l = 8 * max (size-Expr l.of.now) (max (size-Expr l.low.now) (size-Expr l.high.now)) + 3
 
 abbrev pub decreases-one_of : goal.decreases-one_of
-decreases-one_of l = 8 * max (size-Expr l.of.now) (goal.size-one_of l) + 3
+decreases-one_of l = 8 * max (size-Expr l.of.now) (most size-Expr l.list.now) + 3
