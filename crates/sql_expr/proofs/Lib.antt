@@ -1,5 +1,6 @@
 pub mod Chains
 pub mod Exactness
+pub mod Faultless
 pub mod Forms
 pub mod Fronts
 pub mod Greedy
@@ -10,3 +11,4 @@ pub mod Steps
 pub mod Taken
 pub mod Texts
 pub mod Truths
+pub mod Typed

@@ -58,7 +58,7 @@ module _ (S : Expr → Type 0) (S' : Link → Type 0) (T : Expr → Type 0) (to 
   children (Expr-F.OneOf of list negated) = (to of.0 of.1, all_of list)
   children (Expr-F.Between of low high negated) = (to of.0 of.1, to low.0 low.1, to high.0 high.1)
 
-  children_hold : (x : Expr-F Expr Link) (y : Expr-F ((e : Expr) × S e) ((l : Link) × S' l))
+  pub children_hold : (x : Expr-F Expr Link) (y : Expr-F ((e : Expr) × S e) ((l : Link) × S' l))
       → map-Expr ((e : Expr) × S e) ((l : Link) × S' l) Expr Link (λ e. e.0) (λ l. l.0) y ≡ x → Children T x
   children_hold x y is = subst (Children T) is (children y)
 

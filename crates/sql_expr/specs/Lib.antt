@@ -9,3 +9,4 @@ pub mod Typing
 pub mod Outcomes
 pub mod Ready
 pub mod Segments
+pub mod Plain

@@ -94,7 +94,7 @@ pub record IsPointLiteral (n scale width : ℕ) : Type 0 where
   pub places : scale ≤ width
   pub small : n < 10 ^ width
   pub most : width ≤ 38
-  pub least : (w : ℕ) → 1 ≤ w → scale ≤ w → n < 10 ^ w → width ≤ w
+  pub least : (width ≡ 1) ⊎ (width ≡ scale) ⊎ (10 ^ (width - 1) ≤ n)
 
 abbrev pub IsNumberLiteral : SqlType → ℕ → ℕ → Type 0
 IsNumberLiteral Boolean n scale = ⊥
