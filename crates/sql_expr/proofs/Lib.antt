@@ -1,0 +1,14 @@
+pub mod Chains
+pub mod Exactness
+pub mod Faultless
+pub mod Forms
+pub mod Fronts
+pub mod Greedy
+pub mod Nodes
+pub mod Numbers
+pub mod Opened
+pub mod Steps
+pub mod Taken
+pub mod Texts
+pub mod Truths
+pub mod Typed

@@ -1,0 +1,57 @@
+use Rattle.std.proofs.Common.{◌≡◌, ap, sym, ◌∙◌, rules, get_or, subst}
+use Rattle.std.proofs.lemmas.List.{get_or_read}
+use Rattle.ooc_types.specs.declared.value.Value.TheVariants.{Null}
+use Rattle.sql_expr.specs.declared.tree.Expr.TheViews.{the_lemmas, out-Expr, outs-Constant, outs-Column, outs-Minus, outs-Chain}
+use Rattle.sql_expr.specs.declared.tree.Expr.TheOpen.{Expr-F}
+use Rattle.sql_expr.specs.Kinds.{kind_of}
+use Rattle.sql_expr.proofs.Numbers.{minus_kind, minus_operand, chain_first, chain_links, constant_value, column_within, column_value, chain_result}
+use Rattle.sql_expr.proofs.number.+number.Goals as goal
+
+pub number_of-bounds-row-place : goal.number_of-bounds-row-place
+number_of-bounds-row-place t c =
+    column_within c.args.row.now c.args.expr.now c.in-Column.place c.in-Column.kind c.requires.fits
+    (ap out-Expr c.in-Column.is ∙ outs-Column c.in-Column.place c.in-Column.kind)
+
+pub number_of-number_of-requires : goal.number_of-number_of-requires
+number_of-number_of-requires t c =
+    let h = minus_operand c.args.row.now c.args.expr.now c.in-Minus.of c.get.result.now c.in-Minus.kind c.requires.fits
+    (ap out-Expr c.in-Minus.is ∙ outs-Minus c.in-Minus.of c.in-Minus.kind) c.get.ensures in
+    (search (rules, the_lemmas), (h.0, h.1))
+
+pub number_of-opposite_of-requires : goal.number_of-opposite_of-requires
+number_of-opposite_of-requires t c =
+    minus_kind c.args.row.now c.args.expr.now c.in-Minus.of c.in-Minus.kind c.requires.fits
+    (ap out-Expr c.in-Minus.is ∙ outs-Minus c.in-Minus.of c.in-Minus.kind)
+
+pub number_of-number_of-requires-in-Chain : goal.number_of-number_of-requires-in-Chain
+number_of-number_of-requires-in-Chain t c =
+    let h = chain_first c.args.row.now c.args.expr.now c.in-Chain.first c.get-in-Chain.result.now c.in-Chain.links c.requires.fits
+    (ap out-Expr c.in-Chain.is ∙ outs-Chain c.in-Chain.first c.in-Chain.links) c.get-in-Chain.ensures in
+    (search (rules, the_lemmas), (h.0, h.1))
+
+pub number_of-number_links-requires : goal.number_of-number_links-requires
+number_of-number_links-requires t c = (
+  search (rules, the_lemmas),
+  chain_links c.args.row.now c.args.expr.now c.in-Chain.first c.in-Chain.links c.as_slice.result.now c.kind_of.result c.requires.fits
+      (ap out-Expr c.in-Chain.is ∙ outs-Chain c.in-Chain.first c.in-Chain.links)
+      (c.kind_of.ensures ∙ ap kind_of c.get-in-Ok-number_of.ensures) c.as_slice.ensures,
+)
+
+pub number_of-returns-in-Constant : goal.number_of-returns-in-Constant
+number_of-returns-in-Constant t c =
+    constant_value c.args.row.now c.args.expr.now c.in-Constant.value c.in-Constant.kind c.digits_in.result c.requires.fits c.requires.number
+    (ap out-Expr c.in-Constant.is ∙ outs-Constant c.in-Constant.value c.in-Constant.kind) c.digits_in.ensures
+
+pub number_of-returns-in-Column : goal.number_of-returns-in-Column
+number_of-returns-in-Column t c =
+    column_value c.args.row.now c.args.expr.now c.in-Column.place c.in-Column.kind c.index-row-place.result c.digits_in-in-Column.result
+    c.requires.fits c.requires.number (ap out-Expr c.in-Column.is ∙ outs-Column c.in-Column.place c.in-Column.kind)
+    c.index-row-place.is c.digits_in-in-Column.ensures
+
+pub number_of-returns-in-Ok-number_of : goal.number_of-returns-in-Ok-number_of
+number_of-returns-in-Ok-number_of t c =
+    chain_result c.args.row.now c.args.expr.now c.get-in-Chain.result.now c.in-Chain.first c.in-Chain.links c.as_slice.result.now c.kind_of.result
+    c.in-Ok-number_of.left c.number_links.result
+    (ap out-Expr c.in-Chain.is ∙ outs-Chain c.in-Chain.first c.in-Chain.links)
+    c.get-in-Chain.ensures (c.kind_of.ensures ∙ ap kind_of c.get-in-Ok-number_of.ensures) c.as_slice.ensures
+    c.in-Ok-number_of.ensures c.number_links.ensures

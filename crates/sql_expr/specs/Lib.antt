@@ -1,0 +1,12 @@
+pub mod Logic
+pub mod Comparison
+pub mod Characters
+pub mod Like
+pub mod Arithmetic
+pub mod Meaning
+pub mod Kinds
+pub mod Typing
+pub mod Outcomes
+pub mod Ready
+pub mod Segments
+pub mod Plain

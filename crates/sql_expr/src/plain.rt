@@ -1,0 +1,79 @@
+//! Plain conditions, which can't fault.
+ghost use Rattle.std.specs.Prelude.{◌≡◌, List, IsTrue, map};
+ghost use Rattle.ooc_types.specs.declared.value.Value.{Value as SqlValue};
+ghost use Rattle.sql_expr.specs.declared.tree.Expr.{Expr as Tree};
+ghost use Rattle.sql_expr.specs.Meaning.{value_of};
+ghost use Rattle.sql_expr.specs.Plain.{plainness, all_operands as are_operands, all_conditions as are_conditions, IsFaultless};
+ghost use Rattle.sql_expr.specs.Typing.{FitsRow};
+
+use crate::tree::Expr;
+use ooc_types::SqlType;
+
+fn is_literal(expr: &Expr) -> bool
+    ensures { result ≡ (plainness expr.now).literal }
+{
+    match expr {
+        Expr::Constant { .. } => true,
+        _ => false,
+    }
+}
+
+// A column, or a literal with or without a minus.
+fn is_operand(expr: &Expr) -> bool
+    ensures { result ≡ (plainness expr.now).operand }
+{
+    match expr {
+        Expr::Constant { .. } | Expr::Column { .. } => true,
+        Expr::Minus { of, .. } => is_literal(of.get()),
+        _ => false,
+    }
+}
+
+fn are_all_operands(list: &[Expr]) -> bool
+    ensures { result ≡ are_operands (map plainness list.now) }
+{
+    for expr in list {
+        if !is_operand(expr) {
+            return false;
+        }
+    }
+    true
+}
+
+#[cycle(plain)]
+fn are_all_plain(list: &[Expr]) -> bool
+    ensures { result ≡ are_conditions (map plainness list.now) }
+{
+    for expr in list {
+        if !is_plain(expr) {
+            return false;
+        }
+    }
+    true
+}
+
+/// Whether a condition is plain: made by AND, OR and NOT of comparisons, BETWEEN, LIKE and IN of columns and
+/// constants, of IS NULL of a column or constant, and of BOOLEAN columns and constants. A constant is a literal with
+/// or without a minus.
+#[cycle(plain)]
+pub fn is_plain(expr: &Expr) -> bool
+    ensures { result ≡ (plainness expr.now).condition }
+{
+    match expr {
+        Expr::Constant { kind, .. } | Expr::Column { kind, .. } => *kind == SqlType::Boolean,
+        Expr::Not { of } => is_plain(of.get()),
+        Expr::Minus { .. } | Expr::Chain { .. } => false,
+        Expr::Every { list } | Expr::Either { list } => are_all_plain(list.as_slice()),
+        Expr::Compare { left, right, .. } => is_operand(left.get()) && is_operand(right.get()),
+        Expr::IsNull { of, .. } | Expr::Like { of, .. } => is_operand(of.get()),
+        Expr::OneOf { of, list, .. } => is_operand(of.get()) && are_all_operands(list.as_slice()),
+        Expr::Between { of, low, high, .. } => {
+            is_operand(of.get()) && is_operand(low.get()) && is_operand(high.get())
+        }
+    }
+}
+
+/// A plain condition has a value over each row that it fits. The function does nothing; its contract is the law.
+pub fn plain_conditions_have_values()
+    ensures { (expr : Tree) (row : List SqlValue) → FitsRow expr row → IsTrue (plainness expr).condition → IsFaultless (value_of row expr) }
+{}
