@@ -1,5 +1,5 @@
 -- The parts of a flat image: those of the image, at base 0.
-use Rattle.std.proofs.Common.{◌≡◌, ℕ, zero, suc, ◌+◌, ◌*◌, ◌-◌, ◌<◌, ◌≤◌, Bool, true, false, cond, ltb, List, [], ◌∷◌, ◌++◌, length, get_or, take, drop, map, replicate, Option, Some, None, refl, sym, ap, subst, ◌∙◌, arith, inl, inr, length-append}
+use Rattle.std.proofs.Common.{◌≡◌, ℕ, zero, suc, ◌+◌, ◌*◌, ◌-◌, ◌<◌, ◌≤◌, Bool, true, false, cond, ltb, List, ◌++◌, length, get_or, take, drop, map, replicate, Option, Some, refl, ap, ◌∙◌, arith, length-append}
 use Rattle.std.specs.Prelude.{slice_index, slice_range, find, unwrap_or}
 use Rattle.std.specs.List.{range_with_len, flat_map}
 use Rattle.std.proofs.lemmas.Bool.{lt-ltb}
@@ -8,7 +8,6 @@ use Rattle.std.proofs.lemmas.List.Edits.{length-between, get_or-between}
 use Rattle.row_image.specs.declared.layout.CellKind.{CellKind}
 use Rattle.row_image.specs.declared.image.Part.{Part}
 use Rattle.row_image.specs.declared.image.ImageKind.TheVariants.{Rows}
-use Rattle.row_image.specs.Bytes.{number_at}
 use Rattle.row_image.specs.Image.{row_count, part_count, part_place, part_at, parts_of, part_for, no_part}
 use Rattle.row_image.specs.Flat.{flat_row, flat_part, flat}
 use Rattle.row_image.specs.Moves.{based}

@@ -22,3 +22,4 @@ pub mod PageLemmas
 pub mod Laws
 pub mod FlatParts
 pub mod WrittenTexts
+pub mod Followed

@@ -9,3 +9,4 @@ pub mod Parts
 pub mod Flat
 pub mod Moves
 pub mod Texts
+pub mod Followed

@@ -13,6 +13,7 @@ mod put;
 mod read;
 #[cfg(test)]
 mod tests;
+mod texts;
 mod write;
 
 pub use cell::{Cell, CellIn};
@@ -22,4 +23,5 @@ pub use layout::{CellKind, Layout};
 pub use moves::rebase;
 pub use parts::{part_count, part_of};
 pub use read::{read_cell, row_count, row_hash_of};
+pub use texts::followed_texts_are_the_stored_ones;
 pub use write::{new_rows, write_row};
