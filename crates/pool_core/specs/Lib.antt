@@ -1,0 +1,6 @@
+pub mod Readers
+pub mod State
+pub mod Enabled
+pub mod Effects
+pub mod Run
+pub mod Sound

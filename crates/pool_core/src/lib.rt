@@ -1,0 +1,13 @@
+//! What the pool does to its frames and pages, one event at a time, and what stays true over every list of events.
+#![tactic(auto)]
+
+mod enabled;
+mod event;
+mod image;
+mod readers;
+mod state;
+
+pub use event::{Change, Event};
+pub use image::Image;
+pub use readers::Readers;
+pub use state::{CorePage, CoreState, CoreTurn, Mark};
