@@ -336,3 +336,54 @@ fn names_heaps(pages: &[CorePage], kind: &ImageKind, image: &[u8], named: &[Opti
     }
     true
 }
+
+// Whether an actor can seal this image in a frame.
+fn can_seal(
+    state: &Parts,
+    actor: u32,
+    frame: u32,
+    kind: &ImageKind,
+    image: &Image,
+    heaps: &[Option<u64>; 4],
+) -> bool
+    requires page { IsPage state.now.page }
+    ensures { IsTrue result ↔ CanSeal (state_of state.now) actor frame kind.now image.now heaps.now }
+{
+    has_spare(&state.turns, actor, frame)
+        && !is_plain(kind)
+        && is_accepted(state.page, kind, image.bytes())
+        && names_heaps(&state.pages, kind, image.bytes(), heaps)
+}
+
+/// Whether an event is enabled.
+pub fn enabled(state: &Parts, event: &Event) -> bool
+    requires page { IsPage state.now.page }
+    requires whole { (k : ℕ) (p : CorePage) → slice_get state.now.pages.items k ≡ Some p → IsWhole state.now.page p }
+    ensures { IsTrue result ↔ Enabled (state_of state.now) event.now }
+{
+    let turns = &state.turns;
+    let pages = &state.pages;
+    match event {
+        Event::Hand { actor } => *actor < state.actors,
+        Event::Take { actor, frame } => *actor < state.actors && is_home(turns, *frame),
+        Event::Give { actor, frame } => *actor < state.actors && is_out(turns, *actor, *frame),
+        Event::Read { actor, page } => *actor < state.actors && can_read(pages, *page),
+        Event::Leave { actor, page } => *actor < state.actors && reads(pages, *actor, *page),
+        Event::Claim { actor, page } => *actor < state.actors && can_claim(pages, *page),
+        Event::Put {
+            actor,
+            page,
+            change,
+        } => *actor < state.actors && can_put(state.page, turns, pages, *actor, *page, change),
+        Event::Seal {
+            actor,
+            frame,
+            kind,
+            image,
+            heaps,
+        } => *actor < state.actors && can_seal(state, *actor, *frame, kind, image, heaps),
+        Event::Look { actor, page } => {
+            *actor < state.actors && can_look(state.page, pages, *actor, *page)
+        }
+    }
+}

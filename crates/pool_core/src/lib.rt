@@ -1,11 +1,13 @@
 //! What the pool does to its frames and pages, one event at a time, and what stays true over every list of events.
 #![tactic(auto)]
 
+mod acts;
 mod enabled;
 mod event;
 mod image;
 mod readers;
 mod state;
+mod step;
 
 pub use event::{Change, Event};
 pub use image::Image;

@@ -1,6 +1,6 @@
 //! Who reads a page.
 ghost use Rattle.std.specs.Prelude.{◌≡◌, ◌↔◌, ◌==◌, ◌++◌, [], ◌∷◌, IsTrue, OnOk, OnErr, position};
-ghost use Rattle.std.specs.List.{Contains};
+ghost use Rattle.std.specs.List.{Contains, list_any};
 ghost use Rattle.pool_core.specs.Readers.{without_one};
 
 use ooc_io::OutOfMemory;
@@ -39,7 +39,8 @@ impl Readers {
 
     /// Whether an actor has a claim.
     pub fn has(&self, actor: u32) -> bool
-        ensures { IsTrue result ↔ Contains self.now actor }
+        ensures value { result ≡ list_any (λ reader. reader == actor) self.now }
+        ensures contains { IsTrue result ↔ Contains self.now actor }
     {
         self.actors.contains(&actor)
     }
