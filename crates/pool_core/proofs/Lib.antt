@@ -5,3 +5,8 @@ pub mod Images
 pub mod Ready
 pub mod Bodies
 pub mod MarksLeft
+pub mod Contained
+pub mod Marks
+pub mod SoundParts
+pub mod SoundMoves
+pub mod SoundStep

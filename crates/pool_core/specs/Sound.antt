@@ -47,7 +47,7 @@ AllStand bytes pages = (page : ℕ) (p : CorePage) → slice_get pages page ≡ 
 
 -- what is named as a part's heap page is one
 abbrev pub HeapsAre : List CorePage → Type 0
-HeapsAre pages = (page : ℕ) (p : CorePage) → slice_get pages page ≡ Some p → (part : ℕ) → ForSome (get_or p.heaps part None) (λ heap. OnPage pages heap (λ h. IsHeap h.kind))
+HeapsAre pages = (page : ℕ) (p : CorePage) → slice_get pages page ≡ Some p → (part : ℕ) → part < 4 → ForSome (get_or p.heaps part None) (λ heap. OnPage pages heap (λ h. IsHeap h.kind))
 
 -- where an actor has looked at a row page, it could look again
 abbrev pub MarksHold : ℕ → List CorePage → List Mark → Type 0
