@@ -10,3 +10,4 @@ pub mod Marks
 pub mod SoundParts
 pub mod SoundMoves
 pub mod SoundStep
+pub mod Runs

@@ -1,6 +1,6 @@
 -- What holds of a state holds after each event that it enables.
 use Rattle.std.proofs.Common.{◌≡◌, ℕ, ◌<◌, List, [], ◌∷◌, ◌++◌, length, get_or, Option, Some, None, refl, sym, ap, subst, ◌∙◌, arith}
-use Rattle.std.specs.Prelude.{slice_get, slice_set, IsSome, IsSomeAnd, is_some}
+use Rattle.std.specs.Prelude.{slice_get, slice_set, IsSome, IsSomeAnd, is_some, Result, Ok, Err, OnOk, OnErr}
 use Rattle.std.specs.List.{Contains}
 use Rattle.std.proofs.lemmas.List.Elements.{Contains-append_left}
 use Rattle.page_body.specs.declared.body.PageBody.{PageBody}
@@ -139,3 +139,8 @@ sound_step s (Seal actor frame kind image heaps) new sound enabled acts =
     let spare = some_of turn.0.turn.spare (λ f. new ≡ with_turn (record s { pages = s.pages ++ new_page kind image heaps f ∷ [] }) frame (owned turn.0 (length s.pages))) turn.2 in
     subst Sound (sym spare.2) (seal_sound s sound actor frame kind image heaps turn.0 spare.0 enabled.1 turn.1 spare.1)
 sound_step s (Look actor page) new sound enabled acts = subst Sound (sym acts) (look_sound s actor page sound enabled.1)
+
+-- a step that acts, or leaves the state as it was
+pub sound_after : {T E : Type 0} (r : Result T E) (old new : State) (event : Event) → Sound old → Enabled old event → OnOk r (Acts old event new) → OnErr r (new ≡ old) → Sound new
+sound_after (Ok x) old new event sound enabled acts same = sound_step old event new sound enabled acts
+sound_after (Err e) old new event sound enabled acts same = subst Sound (sym same) sound

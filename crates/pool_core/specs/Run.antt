@@ -3,6 +3,8 @@ use Rattle.std.specs.Prelude.{◌≡◌, ℕ, ◌<◌, ◌≤◌, ◌^◌, List,
 use Rattle.row_image.specs.Bytes.{IsPage}
 use Rattle.pool_core.specs.declared.state.CoreTurn.{CoreTurn}
 use Rattle.pool_core.specs.declared.event.Event.{Event}
+use Rattle.pool_core.specs.declared.core_state.CoreStop.{CoreStop}
+use Rattle.pool_core.specs.declared.core_state.CoreStop.TheVariants.{NotEnabled, OutOfMemory}
 use Rattle.pool_core.specs.State.{State, OnTurn}
 use Rattle.pool_core.specs.Enabled.{Enabled}
 use Rattle.pool_core.specs.Effects.{Acts}
@@ -39,3 +41,9 @@ pub record IsRun (bytes frames count : ℕ) (events : List Event) (s : State) : 
   pub start : State
   pub opened : Opened bytes frames count start
   pub ran : Ran start events s
+
+-- where a list of events stopped: at the first that isn't enabled, after those before it have acted; or for want of memory,
+-- after some have acted
+abbrev pub Stops : State → List Event → CoreStop → State → Type 0
+Stops old events (NotEnabled k) new = Ran old (take k events) new × IsSomeAnd (slice_get events k) (λ event. Enabled new event → ⊥)
+Stops old events OutOfMemory new = (k : ℕ) × (k < length events) × Ran old (take k events) new

@@ -2,14 +2,17 @@
 #![tactic(auto)]
 
 mod acts;
+mod core_state;
 mod enabled;
 mod event;
 mod image;
+mod opening;
 mod readers;
 mod state;
 mod step;
 
+pub use core_state::{CoreState, CoreStop};
 pub use event::{Change, Event};
 pub use image::Image;
 pub use readers::Readers;
-pub use state::{CorePage, CoreState, CoreTurn, Mark};
+pub use state::{CorePage, CoreTurn, Mark};

@@ -5,7 +5,6 @@ use crate::readers::Readers;
 use evict_ring::Turn;
 use page_body::PageBody;
 use row_image::ImageKind;
-use std::marker::Model;
 
 /// A frame's turn, at home or out with an actor.
 #[derive(Drop)]
@@ -41,21 +40,4 @@ pub struct Parts {
     pub turns: Vec<CoreTurn>,
     pub pages: Vec<CorePage>,
     pub marks: Vec<Mark>,
-}
-
-/// The state of the core.
-#[derive(Drop)]
-pub struct CoreState {
-    parts: Parts,
-}
-
-impl Model for CoreState {
-    ghost use Rattle.pool_core.specs.State.{State, state_of};
-    ghost use Rattle.std.specs.Prelude.{◌≤◌};
-
-    ghost Value = { State };
-
-    ghost view = { λ s. state_of s.parts };
-
-    ghost invariant = { λ s. 0 ≤ s.parts.page };
 }
