@@ -11,3 +11,7 @@ pub mod SoundParts
 pub mod SoundMoves
 pub mod SoundStep
 pub mod Runs
+pub mod FramesInUse
+pub mod Reading
+pub mod Shape
+pub mod TextsStand

@@ -4,3 +4,4 @@ pub mod Enabled
 pub mod Effects
 pub mod Run
 pub mod Sound
+pub mod Laws
