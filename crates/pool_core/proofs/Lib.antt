@@ -1,0 +1,17 @@
+pub mod Lists
+pub mod ReaderLemmas
+pub mod Frames
+pub mod Images
+pub mod Ready
+pub mod Bodies
+pub mod MarksLeft
+pub mod Contained
+pub mod Marks
+pub mod SoundParts
+pub mod SoundMoves
+pub mod SoundStep
+pub mod Runs
+pub mod FramesInUse
+pub mod Reading
+pub mod Shape
+pub mod TextsStand
