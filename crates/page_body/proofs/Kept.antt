@@ -1,6 +1,6 @@
 -- What composite calls keep, one after the other.
-use Rattle.std.proofs.Common.{◌≡◌, ℕ, ◌≤◌, refl, ◌∙◌, arith}
-use Rattle.page_body.specs.View.{PoolTerms, PoolView}
+use Rattle.std.proofs.Common.{refl, ◌∙◌, arith}
+use Rattle.page_body.specs.View.{PoolView}
 use Rattle.page_body.specs.Keeps.{Kept, SameHeld, Steady, LiveOn, ValidOn}
 
 module _ {Page Pin : Type 0} where

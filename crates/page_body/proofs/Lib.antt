@@ -4,3 +4,4 @@ pub mod Places
 pub mod SlotSteps
 pub mod LongTexts
 pub mod Kept
+pub mod ContentLength

@@ -1,5 +1,5 @@
 -- A long text of a row page's first part.
-use Rattle.std.proofs.Common.{◌≡◌, ◌≢◌, ℕ, ◌+◌, ◌-◌, ◌<◌, ◌≤◌, true, false, List, length, refl, sym, ap, ◌∙◌, subst, arith, inl, inr}
+use Rattle.std.proofs.Common.{◌≡◌, ℕ, ◌+◌, ◌-◌, ◌<◌, true, List, length, refl, sym, ap, ◌∙◌, subst, arith, inl, inr}
 use Rattle.std.specs.Prelude.{slice_range}
 use Rattle.std.proofs.lemmas.Bool.{cases_Bool, false≢true}
 use Rattle.row_image.specs.declared.layout.CellKind.{CellKind}
@@ -7,8 +7,8 @@ use Rattle.row_image.specs.declared.image.ImageKind.TheVariants.{Rows, Heap}
 use Rattle.row_image.specs.declared.image.Part.{Part}
 use Rattle.row_image.specs.Bytes.{IsPage, number_at}
 use Rattle.row_image.specs.Layout.{offset_of, row_place}
-use Rattle.row_image.specs.Cells.{StoredCell, LongCell}
-use Rattle.row_image.specs.Image.{row_count, part_count, part_at, part_for, cell_in, stored_cell}
+use Rattle.row_image.specs.Cells.{LongCell}
+use Rattle.row_image.specs.Image.{row_count, part_count, part_at, part_for, stored_cell}
 use Rattle.row_image.specs.Parts.{is_long}
 use Rattle.row_image.specs.Flat.{flat, flattened, is_long_in}
 use Rattle.row_image.specs.Rules.{IsAccepted}

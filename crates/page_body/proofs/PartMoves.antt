@@ -1,9 +1,8 @@
 -- The parts of a page of which one has another base.
-use Rattle.std.proofs.Common.{◌≡◌, ◌≢◌, ℕ, ◌<◌, List, length, get_or, set, sym, ap, ◌∙◌, arith, length-set, get_or-set_same, get_or-set_other}
+use Rattle.std.proofs.Common.{◌≡◌, ◌≢◌, ℕ, ◌<◌, List, length, get_or, sym, ap, ◌∙◌, arith, length-set, get_or-set_same, get_or-set_other}
 use Rattle.std.specs.Prelude.{slice_set}
 use Rattle.row_image.specs.declared.image.Part.{Part}
 use Rattle.row_image.specs.Image.{part_count, part_at, parts_of, no_part}
-use Rattle.row_image.specs.Moves.{based}
 use Rattle.row_image.proofs.PartLemmas.{parts_length, parts_at}
 
 module _ (old new : List ℕ) (part : ℕ) (value : Part) (moved : parts_of new ≡ slice_set (parts_of old) part value) where

@@ -2,7 +2,7 @@
 use Rattle.std.specs.Prelude.{◌≡◌, ◌≢◌, ℕ, ◌+◌, ◌*◌, ◌<◌, List}
 use Rattle.row_image.specs.declared.layout.CellKind.{CellKind}
 use Rattle.row_image.specs.Image.{part_count, part_at, no_heap, stored_cell}
-use Rattle.row_image.specs.Texts.{CellValue, TextValue, value_of}
+use Rattle.row_image.specs.Texts.{TextValue, value_of}
 use Rattle.page_body.specs.View.{PoolTerms, PoolView}
 use Rattle.page_body.specs.Keeps.{one_of}
 

@@ -1,6 +1,8 @@
 //! What a pool refuses.
 
+use ooc_io::OutOfMemory;
 use row_image::Damage;
+use std::alloc::{AllocError, AllocFailed};
 
 /// Why a pool had no frame, or why a page couldn't be reached.
 #[derive(Clone, Copy, Debug, PartialEq, Eq)]
@@ -10,4 +12,37 @@ pub enum PoolFault {
     /// An image that was just read breaks a rule of its page's kind.
     Damaged(Damage),
     OutOfMemory,
+}
+
+impl From<OutOfMemory> for PoolFault {
+    ghost use Rattle.std.specs.Prelude.{◌≡◌};
+    ghost use Rattle.page_body.specs.declared.fault.PoolFault.TheVariants.{OutOfMemory};
+
+    ghost from_gives = { λ _ fault. fault ≡ OutOfMemory };
+
+    fn from(_: OutOfMemory) -> PoolFault {
+        PoolFault::OutOfMemory
+    }
+}
+
+impl From<AllocError> for PoolFault {
+    ghost use Rattle.std.specs.Prelude.{◌≡◌};
+    ghost use Rattle.page_body.specs.declared.fault.PoolFault.TheVariants.{OutOfMemory};
+
+    ghost from_gives = { λ _ fault. fault ≡ OutOfMemory };
+
+    fn from(_: AllocError) -> PoolFault {
+        PoolFault::OutOfMemory
+    }
+}
+
+impl<T: Drop> From<AllocFailed<T>> for PoolFault {
+    ghost use Rattle.std.specs.Prelude.{◌≡◌};
+    ghost use Rattle.page_body.specs.declared.fault.PoolFault.TheVariants.{OutOfMemory};
+
+    ghost from_gives = { λ _ fault. fault ≡ OutOfMemory };
+
+    fn from(_: AllocFailed<T>) -> PoolFault {
+        PoolFault::OutOfMemory
+    }
 }

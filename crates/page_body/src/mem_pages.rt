@@ -112,14 +112,8 @@ impl Pages for MemPages {
             return Err(PoolFault::OutOfMemory);
         }
         let number = self.slots.len() as u32;
-        let bytes = match zeroed(self.alloc, self.page as usize) {
-            Ok(bytes) => bytes,
-            Err(_) => return Err(PoolFault::OutOfMemory),
-        };
-        match self.slots.push(Slot::Open) {
-            Ok(()) => {}
-            Err(_) => return Err(PoolFault::OutOfMemory),
-        }
+        let bytes = zeroed(self.alloc, self.page as usize)?;
+        self.slots.push(Slot::Open)?;
         self.held += 1;
         Ok(OpenPage {
             frame: Frame { number, bytes },

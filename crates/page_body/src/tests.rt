@@ -154,10 +154,7 @@ fn there_and_back<L: SpillLane>(
 }
 
 fn heap_sent<L: SpillLane>(alloc: Global, lane: &mut L) -> Result<PageBody, PoolFault> {
-    let bytes = match heap_image().to_vec(alloc) {
-        Ok(bytes) => bytes,
-        Err(_) => return Err(PoolFault::OutOfMemory),
-    };
+    let bytes = heap_image().to_vec(alloc)?;
     if check_image(&ImageKind::Heap, &bytes).is_err() {
         return Err(PoolFault::OutOfMemory);
     }

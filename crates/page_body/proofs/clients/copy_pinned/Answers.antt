@@ -1,5 +1,4 @@
-use Rattle.std.proofs.Common.{◌≡◌, ◌≤◌, sym, subst}
-use Rattle.row_image.specs.declared.image.ImageKind.TheVariants.{Rows}
+use Rattle.std.proofs.Common.{◌≤◌, sym, subst}
 use Rattle.row_image.specs.Image.{part_count}
 use Rattle.row_image.specs.Rules.{IsAccepted}
 use Rattle.row_image.proofs.Laws.{accepted_parts}

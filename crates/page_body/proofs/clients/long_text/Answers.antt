@@ -1,5 +1,5 @@
-use Rattle.std.proofs.Common.{rules, ◌≡◌, ◌≢◌, ℕ, ◌+◌, ◌-◌, ◌*◌, ◌<◌, ◌≤◌, arith, sym, ap, subst, ◌∙◌, length, List}
-use Rattle.row_image.specs.declared.image.ImageKind.TheVariants.{Rows, Heap}
+use Rattle.std.proofs.Common.{◌≡◌, ℕ, arith, sym, ap, subst, ◌∙◌, length, List}
+use Rattle.row_image.specs.declared.image.ImageKind.TheVariants.{Rows}
 use Rattle.row_image.specs.Bytes.{IsPage}
 use Rattle.row_image.specs.Cells.{LongCell}
 use Rattle.row_image.specs.Flat.{flat}
@@ -29,7 +29,7 @@ overflow_sub-start g c =
     let shows = g.met.P.Pages.shown c.args.pages.now pins.rows c.requires.own.rows_own in
     let page : IsPage (length image) = subst IsPage (sym shows.long) (g.met.P.Pages.sized c.args.pages.now) in
     let accepted : IsAccepted (Rows kinds) image = subst (λ k. IsAccepted k image) c.requires.kind shows.stands.accepted in
-    let is : stored_cell kinds image c.args.row c.args.column ≡ LongCell c.in-Long.prefix c.in-Long.length c.in-Long.address = sym (c.in-Long.ensures ∙ ap (λ (z : List ℕ). stored_cell kinds z c.args.row c.args.column) c.bytes-image.ensures) in
+    let is : stored_cell kinds image c.args.row c.args.column ≡ LongCell c.in-Long.prefix c.in-Long.length c.in-Long.address = sym (subst (λ (z : List ℕ). LongCell c.in-Long.prefix c.in-Long.length c.in-Long.address ≡ stored_cell kinds z c.args.row c.args.column) c.bytes-image.ensures c.in-Long.ensures) in
     let fits = text_fits kinds image c.args.row c.args.column page accepted c.requires.part c.requires.row c.requires.column c.in-Long.prefix c.in-Long.length c.in-Long.address is in
     let placed = c.requires.placed c.requires.part fits.heap in
     let base : c.base_of-base.result ≡ (part_at image 0).base = cc (placed, c.base_of-base.ensures.is, c.frame.ensures, c.page_bytes.ensures.is) in
@@ -46,7 +46,7 @@ overflow_add-result g c =
     let shows = g.met.P.Pages.shown c.args.pages.now pins.rows c.requires.own.rows_own in
     let page : IsPage (length image) = subst IsPage (sym shows.long) (g.met.P.Pages.sized c.args.pages.now) in
     let accepted : IsAccepted (Rows kinds) image = subst (λ k. IsAccepted k image) c.requires.kind shows.stands.accepted in
-    let is : stored_cell kinds image c.args.row c.args.column ≡ LongCell c.in-Long.prefix c.in-Long.length c.in-Long.address = sym (c.in-Long.ensures ∙ ap (λ (z : List ℕ). stored_cell kinds z c.args.row c.args.column) c.bytes-image.ensures) in
+    let is : stored_cell kinds image c.args.row c.args.column ≡ LongCell c.in-Long.prefix c.in-Long.length c.in-Long.address = sym (subst (λ (z : List ℕ). LongCell c.in-Long.prefix c.in-Long.length c.in-Long.address ≡ stored_cell kinds z c.args.row c.args.column) c.bytes-image.ensures c.in-Long.ensures) in
     let fits = text_fits kinds image c.args.row c.args.column page accepted c.requires.part c.requires.row c.requires.column c.in-Long.prefix c.in-Long.length c.in-Long.address is in
     let placed = c.requires.placed c.requires.part fits.heap in
     let base : c.base_of-base.result ≡ (part_at image 0).base = cc (placed, c.base_of-base.ensures.is, c.frame.ensures, c.page_bytes.ensures.is) in
@@ -64,7 +64,7 @@ slice_bounds-result-end g c =
     let shows = g.met.P.Pages.shown c.args.pages.now pins.rows c.requires.own.rows_own in
     let page : IsPage (length image) = subst IsPage (sym shows.long) (g.met.P.Pages.sized c.args.pages.now) in
     let accepted : IsAccepted (Rows kinds) image = subst (λ k. IsAccepted k image) c.requires.kind shows.stands.accepted in
-    let is : stored_cell kinds image c.args.row c.args.column ≡ LongCell c.in-Long.prefix c.in-Long.length c.in-Long.address = sym (c.in-Long.ensures ∙ ap (λ (z : List ℕ). stored_cell kinds z c.args.row c.args.column) c.bytes-image.ensures) in
+    let is : stored_cell kinds image c.args.row c.args.column ≡ LongCell c.in-Long.prefix c.in-Long.length c.in-Long.address = sym (subst (λ (z : List ℕ). LongCell c.in-Long.prefix c.in-Long.length c.in-Long.address ≡ stored_cell kinds z c.args.row c.args.column) c.bytes-image.ensures c.in-Long.ensures) in
     let fits = text_fits kinds image c.args.row c.args.column page accepted c.requires.part c.requires.row c.requires.column c.in-Long.prefix c.in-Long.length c.in-Long.address is in
     let placed = c.requires.placed c.requires.part fits.heap in
     let base : c.base_of-base.result ≡ (part_at image 0).base = cc (placed, c.base_of-base.ensures.is, c.frame.ensures, c.page_bytes.ensures.is) in
@@ -85,7 +85,7 @@ returns-in-Long g c =
     let shows = g.met.P.Pages.shown c.args.pages.now pins.rows c.requires.own.rows_own in
     let page : IsPage (length image) = subst IsPage (sym shows.long) (g.met.P.Pages.sized c.args.pages.now) in
     let accepted : IsAccepted (Rows kinds) image = subst (λ k. IsAccepted k image) c.requires.kind shows.stands.accepted in
-    let is : stored_cell kinds image c.args.row c.args.column ≡ LongCell c.in-Long.prefix c.in-Long.length c.in-Long.address = sym (c.in-Long.ensures ∙ ap (λ (z : List ℕ). stored_cell kinds z c.args.row c.args.column) c.bytes-image.ensures) in
+    let is : stored_cell kinds image c.args.row c.args.column ≡ LongCell c.in-Long.prefix c.in-Long.length c.in-Long.address = sym (subst (λ (z : List ℕ). LongCell c.in-Long.prefix c.in-Long.length c.in-Long.address ≡ stored_cell kinds z c.args.row c.args.column) c.bytes-image.ensures c.in-Long.ensures) in
     let fits = text_fits kinds image c.args.row c.args.column page accepted c.requires.part c.requires.row c.requires.column c.in-Long.prefix c.in-Long.length c.in-Long.address is in
     let placed = c.requires.placed c.requires.part fits.heap in
     let base : c.base_of-base.result ≡ (part_at image 0).base = cc (placed, c.base_of-base.ensures.is, c.frame.ensures, c.page_bytes.ensures.is) in

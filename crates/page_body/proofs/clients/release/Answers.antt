@@ -1,4 +1,4 @@
-use Rattle.std.proofs.Common.{◌≡◌, ◌≢◌, ℕ, ◌+◌, ◌<◌, arith, sym}
+use Rattle.std.proofs.Common.{arith, sym}
 use Rattle.page_body.proofs.Bags.{one_other}
 use Rattle.page_body.proofs.clients.release.Goals as goal
 

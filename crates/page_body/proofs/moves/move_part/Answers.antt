@@ -1,4 +1,4 @@
-use Rattle.std.proofs.Common.{◌≡◌, ◌≢◌, ap, ◌∙◌, length}
+use Rattle.std.proofs.Common.{ap}
 use Rattle.row_image.specs.declared.image.Part.{Part}
 use Rattle.row_image.specs.Image.{part_at}
 use Rattle.row_image.specs.Moves.{based}

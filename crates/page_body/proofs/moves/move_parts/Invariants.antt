@@ -1,4 +1,4 @@
-use Rattle.std.proofs.Common.{◌≡◌, ◌≢◌, ℕ, ◌<◌, ◌≤◌, length, slice_index}
+use Rattle.std.proofs.Common.{◌≡◌, ◌≢◌, ℕ, ◌<◌, ◌≤◌, slice_index}
 use Rattle.row_image.specs.declared.image.ImageKind.TheVariants.{Rows}
 use Rattle.row_image.specs.Image.{part_count, part_at, no_heap}
 use Rattle.row_image.specs.Flat.{flat}

@@ -1,4 +1,4 @@
-use Rattle.std.proofs.Common.{◌≡◌, None, refl, subst}
+use Rattle.std.proofs.Common.{None, refl, subst}
 use Rattle.row_image.specs.Flat.{flat}
 use Rattle.page_body.specs.Stands.{StandsFor}
 use Rattle.page_body.specs.declared.body.PageBody.TheVariants.{Resident}

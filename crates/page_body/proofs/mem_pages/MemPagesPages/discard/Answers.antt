@@ -1,8 +1,6 @@
-use Rattle.std.proofs.Common.{rules, refl, sym, ap, subst, arith, ℕ, ◌≡◌, ◌≢◌, ◌+◌, ◌<◌, ◌≤◌, ◌∙◌, Some, length}
-use Rattle.std.specs.Prelude.{slice_get, slice_set}
+use Rattle.std.proofs.Common.{refl, arith}
 use Rattle.std.proofs.Common.{◌-◌}
-use Rattle.page_body.specs.declared.slot.Slot.TheVariants.{Open, Sealed, Gone}
-use Rattle.page_body.specs.Slots.{pins_of, opens_of, LiveIn, LiveAt, ValidIn}
+use Rattle.page_body.specs.declared.slot.Slot.TheVariants.{Open, Gone}
 use Rattle.page_body.proofs.SlotSteps.{open_there, some_held, total_less, open_less, lives_on, valid_on}
 use Rattle.page_body.proofs.mem_pages.MemPagesPages.discard.Goals as goal
 

@@ -1,9 +1,7 @@
-use Rattle.std.proofs.Common.{rules, refl, sym, ap, subst, arith, ℕ, ◌≡◌, ◌≢◌, ◌+◌, ◌<◌, ◌≤◌, ◌∙◌, Some, length}
-use Rattle.std.specs.Prelude.{slice_get, slice_set}
-use Rattle.std.specs.Prelude.{◌++◌, [], ◌∷◌, List}
+use Rattle.std.proofs.Common.{sym, subst, arith, ℕ, ◌≡◌, ◌+◌, length}
+use Rattle.std.specs.Prelude.{List}
 use Rattle.page_body.specs.Keeps.{OneOpen}
 use Rattle.page_body.specs.declared.slot.Slot.{Slot}
-use Rattle.page_body.specs.declared.slot.Slot.TheVariants.{Open}
 use Rattle.page_body.specs.Slots.{LiveAt, IsPin, slots_view}
 use Rattle.page_body.proofs.SlotSteps.{push_open, push_lives, push_valid}
 use Rattle.page_body.proofs.mem_pages.MemPagesPages.open.Goals as goal
@@ -14,7 +12,7 @@ returns-clause-counted c =
     let held = c.args.self.now.held in
     let page = c.args.self.now.page in
     let grant = c.args.self.now.grant in
-    let items = c.in-Ok-push.ensures.items in
+    let items = c.in_ok-push.ensures.items in
     let k = push_open slots page grant held in
     let whole = c.args.self.now.slots.ok.0 in
     let number = c.len-number.ensures in
@@ -28,7 +26,7 @@ returns-clause-lives c =
     let held = c.args.self.now.held in
     let page = c.args.self.now.page in
     let grant = c.args.self.now.grant in
-    let items = c.in-Ok-push.ensures.items in
+    let items = c.in_ok-push.ensures.items in
     λ p live. subst (λ (ss : List Slot). LiveAt page ss p) (sym items) (push_lives slots page p live)
 
 pub returns-clause-pins : goal.returns-clause-pins
@@ -37,5 +35,5 @@ returns-clause-pins c =
     let held = c.args.self.now.held in
     let page = c.args.self.now.page in
     let grant = c.args.self.now.grant in
-    let items = c.in-Ok-push.ensures.items in
+    let items = c.in_ok-push.ensures.items in
     λ q valid. subst (λ (ss : List Slot). IsPin page ss q) (sym items) (push_valid slots page q valid)

@@ -1,7 +1,6 @@
-use Rattle.std.proofs.Common.{rules, refl, sym, ap, subst, arith, ℕ, ◌≡◌, ◌≢◌, ◌+◌, ◌<◌, ◌≤◌, ◌∙◌, Some, length}
-use Rattle.std.specs.Prelude.{slice_get, slice_set}
-use Rattle.page_body.specs.declared.slot.Slot.{Slot}
-use Rattle.page_body.specs.Slots.{HasPage, pins_of, opens_of, with_pins, pins_at, LiveIn, LiveAt, ValidIn, frame_of}
+use Rattle.std.proofs.Common.{refl, sym, ap, subst, arith, ◌+◌, ◌<◌, ◌∙◌, Some}
+use Rattle.std.specs.Prelude.{slice_set}
+use Rattle.page_body.specs.Slots.{HasPage, pins_of, opens_of, pins_at, LiveIn, ValidIn}
 use Rattle.page_body.proofs.SlotSteps.{live_read, live_slot, live_has, has_frame, has_with, pins_with, opens_with, live_with, valid_with, new_valid, new_shows, total_more, pins_small, pin_more, frame_there, pins_there, lives_on, valid_on}
 use Rattle.page_body.proofs.mem_pages.MemPagesPages.pin.Goals as goal
 

@@ -1,6 +1,6 @@
-use Rattle.std.proofs.Common.{rules, refl, sym, ap, subst, arith, ℕ, ◌≡◌, ◌≢◌, ◌+◌, ◌<◌, ◌≤◌, ◌∙◌, Some, length}
-use Rattle.std.specs.Prelude.{slice_get, slice_set}
-use Rattle.page_body.specs.Slots.{HasPage, pins_of, opens_of, pins_at, in_slot, LiveIn, LiveAt, ValidIn, frame_of, bytes_of, frame_at}
+use Rattle.std.proofs.Common.{refl, sym, ap, subst, arith, ◌≡◌, ◌+◌, ◌<◌, ◌∙◌}
+use Rattle.std.specs.Prelude.{slice_set}
+use Rattle.page_body.specs.Slots.{pins_of, pins_at, in_slot, bytes_of}
 use Rattle.row_image.specs.Rules.{IsAccepted}
 use Rattle.row_image.specs.Bytes.{IsPage}
 use Rattle.page_body.specs.Shows.{AreBases}

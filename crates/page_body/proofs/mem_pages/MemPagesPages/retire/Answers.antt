@@ -1,7 +1,6 @@
-use Rattle.std.proofs.Common.{rules, refl, sym, ap, subst, arith, ℕ, ◌≡◌, ◌≢◌, ◌+◌, ◌<◌, ◌≤◌, ◌∙◌, Some, length}
-use Rattle.std.specs.Prelude.{slice_get, slice_set}
+use Rattle.std.proofs.Common.{refl, sym, ap, arith, ◌≡◌, ◌∙◌}
 use Rattle.page_body.specs.declared.slot.Slot.TheVariants.{Gone}
-use Rattle.page_body.specs.Slots.{pins_of, opens_of, in_slot, LiveIn, LiveAt, ValidIn}
+use Rattle.page_body.specs.Slots.{pins_of, in_slot}
 use Rattle.page_body.proofs.SlotSteps.{live_read, live_slot, opens_none, total_same, held_same, gone_ends, others_live_on, valid_on, unpinned_none}
 use Rattle.page_body.proofs.mem_pages.MemPagesPages.retire.Goals as goal
 

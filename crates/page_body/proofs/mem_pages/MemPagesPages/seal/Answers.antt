@@ -1,8 +1,8 @@
-use Rattle.std.proofs.Common.{rules, refl, sym, ap, subst, arith, ℕ, ◌≡◌, ◌≢◌, ◌+◌, ◌<◌, ◌≤◌, ◌∙◌, Some, length}
-use Rattle.std.specs.Prelude.{slice_get, slice_set}
+use Rattle.std.proofs.Common.{refl, ap, subst, arith, ◌∙◌}
+use Rattle.std.specs.Prelude.{slice_get}
 use Rattle.std.proofs.Common.{◌-◌}
-use Rattle.page_body.specs.declared.slot.Slot.TheVariants.{Open, Sealed, Gone}
-use Rattle.page_body.specs.Slots.{pins_of, opens_of, LiveIn, LiveAt, ValidIn}
+use Rattle.page_body.specs.declared.slot.Slot.TheVariants.{Open, Sealed}
+use Rattle.page_body.specs.Slots.{LiveIn}
 use Rattle.page_body.specs.declared.mem_page.MemPage.{MemPage}
 use Rattle.page_body.proofs.SlotSteps.{open_there, new_live, sealed_frame, pins_there, some_held, total_less, open_less, lives_on, valid_on}
 use Rattle.page_body.proofs.mem_pages.MemPagesPages.seal.Goals as goal

@@ -1,9 +1,9 @@
-use Rattle.std.proofs.Common.{rules, refl, sym, ap, subst, arith, ℕ, ◌≡◌, ◌≢◌, ◌+◌, ◌<◌, ◌≤◌, ◌∙◌, Some, length}
+use Rattle.std.proofs.Common.{sym, ap, subst, arith, ◌≡◌, ◌+◌, ◌∙◌, Some}
 use Rattle.std.specs.Prelude.{slice_get, slice_set}
 use Rattle.std.proofs.Common.{◌-◌}
 use Rattle.page_body.specs.Keeps.{OnePin}
 use Rattle.page_body.specs.SlotLaws.{pinned_in}
-use Rattle.page_body.specs.Slots.{HasPage, pins_of, opens_of, with_pins, LiveIn, LiveAt, ValidIn, slots_view}
+use Rattle.page_body.specs.Slots.{pins_of, opens_of, LiveIn, ValidIn, slots_view}
 use Rattle.page_body.proofs.SlotSteps.{valid_read, pinned_has, pins_with, opens_with, live_with, valid_with, some_held, total_less, pin_less, lives_on, pinned_on}
 use Rattle.page_body.proofs.mem_pages.MemPagesPages.unpin.Goals as goal
 
