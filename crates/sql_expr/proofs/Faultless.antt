@@ -38,18 +38,18 @@ and_right false b h = cc
 small_integer : (n : ℕ) → integer_type n ≡ Integer → n < 2 ^ 31
 small_integer n =
     elim (nat_lt n (2 ^ 31)) as (λ b. nat_lt n (2 ^ 31) ≡ b → cond b Integer (cond (nat_lt n (2 ^ 63)) BigInt HugeInt) ≡ Integer → n < 2 ^ 31) [
-      true ↦ λ h e. (Decides-ltb n (2 ^ 31)).0 h
-    | false ↦ λ h. elim (nat_lt n (2 ^ 63)) as (λ b. cond b BigInt HugeInt ≡ Integer → n < 2 ^ 31) [ true ↦ λ e. cc | false ↦ λ e. cc ]
+      | true ↦ λ h e. (Decides-ltb n (2 ^ 31)).0 h
+      | false ↦ λ h. elim (nat_lt n (2 ^ 63)) as (λ b. cond b BigInt HugeInt ≡ Integer → n < 2 ^ 31) [ true ↦ λ e. cc | false ↦ λ e. cc ]
     ] refl
 
 small_bigint : (n : ℕ) → integer_type n ≡ BigInt → n < 2 ^ 63
 small_bigint n =
     elim (nat_lt n (2 ^ 31)) as (λ b. cond b Integer (cond (nat_lt n (2 ^ 63)) BigInt HugeInt) ≡ BigInt → n < 2 ^ 63) [
-      true ↦ λ e. cc
-    | false ↦ elim (nat_lt n (2 ^ 63)) as (λ b. nat_lt n (2 ^ 63) ≡ b → cond b BigInt HugeInt ≡ BigInt → n < 2 ^ 63) [
-          true ↦ λ h e. (Decides-ltb n (2 ^ 63)).0 h
+      | true ↦ λ e. cc
+      | false ↦ elim (nat_lt n (2 ^ 63)) as (λ b. nat_lt n (2 ^ 63) ≡ b → cond b BigInt HugeInt ≡ BigInt → n < 2 ^ 63) [
+        | true ↦ λ h e. (Decides-ltb n (2 ^ 63)).0 h
         | false ↦ λ h e. cc
-        ] refl
+      ] refl
     ]
 
 opposite_in_range : (kind : SqlType) (n m : ℕ) → IsNumberLiteral kind n m → is_in_range kind (neg_ℤ (pos n)) ≡ true
@@ -80,7 +80,7 @@ then_faultless (Ok v) f h g = g v
 plain_out : (e : Expr) (x : Expr-F Expr Link) → out-Expr e ≡ x → plainness e ≡ plain_step (map-Expr Expr Link Plainness Plainness plainness link_plainness x)
 plain_out e x is =
     fold_out-Expr Plainness Plainness plain_step link_plain_step e
-      ∙ ap (λ y. plain_step (map-Expr Expr Link Plainness Plainness plainness link_plainness y)) is
+    ∙ ap (λ y. plain_step (map-Expr Expr Link Plainness Plainness plainness link_plainness y)) is
 
 -- the value of a column or a constant
 literal_node : (row : List Value) (e of : Expr) (kind : SqlType) (x : Expr-F Expr Link) → FitsRow e row → out-Expr e ≡ Expr-F.Minus of kind → out-Expr of ≡ x
@@ -90,7 +90,7 @@ literal_node row e of kind (Expr-F.Constant v k) fits is at literal =
     let m = (opened row of (Expr-F.Constant v k) n.children at).node in
     let same : k ≡ kind = sym (kind_out of (Expr-F.Constant v k) at) ∙ n.node.1 in
     subst (λ (m : Meaning). IsFaultless (then_value m (opposite kind))) (sym (value_out row of (Expr-F.Constant v k) at))
-        (opposite_faultless kind v (subst (λ (t : SqlType). IsLiteral t v) same m))
+    (opposite_faultless kind v (subst (λ (t : SqlType). IsLiteral t v) same m))
 literal_node row e of kind (Expr-F.Column place k) fits is at literal =
     let no : true ≡ false = sym literal ∙ ap (λ (p : Plainness). p.literal) (plain_out of (Expr-F.Column place k) at) in cc
 literal_node row e of kind (Expr-F.Not x) fits is at literal =
@@ -119,7 +119,7 @@ operand_node row e (Expr-F.Constant v k) fits is operand = subst IsFaultless (sy
 operand_node row e (Expr-F.Column place k) fits is operand = subst IsFaultless (sym (value_out row e (Expr-F.Column place k) is)) tt
 operand_node row e (Expr-F.Minus of kind) fits is operand =
     subst IsFaultless (sym (value_out row e (Expr-F.Minus of kind) is))
-        (literal_node row e of kind (out-Expr of) fits is refl (sym (ap (λ (p : Plainness). p.operand) (plain_out e (Expr-F.Minus of kind) is)) ∙ operand))
+    (literal_node row e of kind (out-Expr of) fits is refl (sym (ap (λ (p : Plainness). p.operand) (plain_out e (Expr-F.Minus of kind) is)) ∙ operand))
 operand_node row e (Expr-F.Not x) fits is operand =
     let no : true ≡ false = sym operand ∙ ap (λ (p : Plainness). p.operand) (plain_out e (Expr-F.Not x) is) in cc
 operand_node row e (Expr-F.Every list) fits is operand =
@@ -175,17 +175,19 @@ HasValue e = (row : List Value) → FitsRow e row → (plainness e).condition �
 conditions_faultless : (row : List Value) (list : List Expr) → AllOf HasValue list → AllOf (λ e. FitsRow e row) list
     → all_conditions (map plainness list) ≡ true → AllFaultless (map (value_of row) list)
 conditions_faultless row [] have fit plain = tt
-conditions_faultless row (e ∷ list) have fit plain =
-    (have.0 row fit.0 (and_left (plainness e).condition (all_conditions (map plainness list)) plain),
-      conditions_faultless row list have.1 fit.1 (and_right (plainness e).condition (all_conditions (map plainness list)) plain))
+conditions_faultless row (e ∷ list) have fit plain = (
+  have.0 row fit.0 (and_left (plainness e).condition (all_conditions (map plainness list)) plain),
+  conditions_faultless row list have.1 fit.1 (and_right (plainness e).condition (all_conditions (map plainness list)) plain),
+)
 
 constants_faultless : (row : List Value) (of : Expr) (list : List Expr) → IsFaultless (value_of row of) → AllOf (λ e. FitsRow e row) list
     → all_operands (map plainness list) ≡ true → AllFaultless (map (comparison Equal (value_of row of)) (map (value_of row) list))
 constants_faultless row of [] h fit plain = tt
-constants_faultless row of (e ∷ list) h fit plain =
-    (comparison_faultless Equal (value_of row of) (value_of row e) h
-        (operand_faultless row e fit.0 (and_left (plainness e).operand (all_operands (map plainness list)) plain)),
-      constants_faultless row of list h fit.1 (and_right (plainness e).operand (all_operands (map plainness list)) plain))
+constants_faultless row of (e ∷ list) h fit plain = (
+  comparison_faultless Equal (value_of row of) (value_of row e) h
+      (operand_faultless row e fit.0 (and_left (plainness e).operand (all_operands (map plainness list)) plain)),
+  constants_faultless row of list h fit.1 (and_right (plainness e).operand (all_operands (map plainness list)) plain),
+)
 
 node_has_value : (e : Expr) (x : Expr-F Expr Link) → out-Expr e ≡ x → Children HasValue x → HasValue e
 node_has_value e (Expr-F.Constant v k) is have row fits plain = subst IsFaultless (sym (value_out row e (Expr-F.Constant v k) is)) tt
@@ -200,21 +202,21 @@ node_has_value e (Expr-F.Every list) is have row fits plain =
     let n = opened row e (Expr-F.Every list) fits is in
     let p = sym (ap (λ (p : Plainness). p.condition) (plain_out e (Expr-F.Every list) is)) ∙ plain in
     subst IsFaultless (sym (value_out row e (Expr-F.Every list) is))
-        (every_faultless (Ok (Truth true)) (map (value_of row) list) tt (conditions_faultless row list have n.children p))
+    (every_faultless (Ok (Truth true)) (map (value_of row) list) tt (conditions_faultless row list have n.children p))
 node_has_value e (Expr-F.Either list) is have row fits plain =
     let n = opened row e (Expr-F.Either list) fits is in
     let p = sym (ap (λ (p : Plainness). p.condition) (plain_out e (Expr-F.Either list) is)) ∙ plain in
     subst IsFaultless (sym (value_out row e (Expr-F.Either list) is))
-        (either_faultless (Ok (Truth false)) (map (value_of row) list) tt (conditions_faultless row list have n.children p))
+    (either_faultless (Ok (Truth false)) (map (value_of row) list) tt (conditions_faultless row list have n.children p))
 node_has_value e (Expr-F.Chain first links) is have row fits plain =
     let no : true ≡ false = sym plain ∙ ap (λ (p : Plainness). p.condition) (plain_out e (Expr-F.Chain first links) is) in cc
 node_has_value e (Expr-F.Compare sign left right) is have row fits plain =
     let n = opened row e (Expr-F.Compare sign left right) fits is in
     let p = sym (ap (λ (p : Plainness). p.condition) (plain_out e (Expr-F.Compare sign left right) is)) ∙ plain in
     subst IsFaultless (sym (value_out row e (Expr-F.Compare sign left right) is))
-        (comparison_faultless sign (value_of row left) (value_of row right)
-          (operand_faultless row left n.children.0 (and_left (plainness left).operand (plainness right).operand p))
-          (operand_faultless row right n.children.1 (and_right (plainness left).operand (plainness right).operand p)))
+    (comparison_faultless sign (value_of row left) (value_of row right)
+    (operand_faultless row left n.children.0 (and_left (plainness left).operand (plainness right).operand p))
+    (operand_faultless row right n.children.1 (and_right (plainness left).operand (plainness right).operand p)))
 node_has_value e (Expr-F.IsNull of negated) is have row fits plain =
     let n = opened row e (Expr-F.IsNull of negated) fits is in
     let p = sym (ap (λ (p : Plainness). p.condition) (plain_out e (Expr-F.IsNull of negated) is)) ∙ plain in
@@ -228,9 +230,9 @@ node_has_value e (Expr-F.OneOf of list negated) is have row fits plain =
     let p = sym (ap (λ (p : Plainness). p.condition) (plain_out e (Expr-F.OneOf of list negated) is)) ∙ plain in
     let h = operand_faultless row of n.children.0 (and_left (plainness of).operand (all_operands (map plainness list)) p) in
     subst IsFaultless (sym (value_out row e (Expr-F.OneOf of list negated) is))
-        (then_faultless (one_of (value_of row of) (map (value_of row) list)) _
-          (either_faultless (Ok (Truth false)) (map (comparison Equal (value_of row of)) (map (value_of row) list)) tt
-            (constants_faultless row of list h n.children.1 (and_right (plainness of).operand (all_operands (map plainness list)) p))) (λ v. tt))
+    (then_faultless (one_of (value_of row of) (map (value_of row) list)) _
+    (either_faultless (Ok (Truth false)) (map (comparison Equal (value_of row of)) (map (value_of row) list)) tt
+    (constants_faultless row of list h n.children.1 (and_right (plainness of).operand (all_operands (map plainness list)) p))) (λ v. tt))
 node_has_value e (Expr-F.Between of low high negated) is have row fits plain =
     let n = opened row e (Expr-F.Between of low high negated) fits is in
     let p = sym (ap (λ (p : Plainness). p.condition) (plain_out e (Expr-F.Between of low high negated) is)) ∙ plain in
@@ -239,10 +241,10 @@ node_has_value e (Expr-F.Between of low high negated) is have row fits plain =
     let i = operand_faultless row low n.children.1 (and_left (plainness low).operand (plainness high).operand q) in
     let j = operand_faultless row high n.children.2 (and_right (plainness low).operand (plainness high).operand q) in
     subst IsFaultless (sym (value_out row e (Expr-F.Between of low high negated) is))
-        (then_faultless (between (value_of row of) (value_of row low) (value_of row high)) _
-          (then_faultless (comparison AtLeast (value_of row of) (value_of row low)) _ (comparison_faultless AtLeast (value_of row of) (value_of row low) h i)
-            (λ v. and_faultless (truth_in v) (comparison AtMost (value_of row of) (value_of row high)) (comparison_faultless AtMost (value_of row of) (value_of row high) h j)))
-          (λ v. tt))
+    (then_faultless (between (value_of row of) (value_of row low) (value_of row high)) _
+    (then_faultless (comparison AtLeast (value_of row of) (value_of row low)) _ (comparison_faultless AtLeast (value_of row of) (value_of row low) h i)
+    (λ v. and_faultless (truth_in v) (comparison AtMost (value_of row of) (value_of row high)) (comparison_faultless AtMost (value_of row of) (value_of row high) h j)))
+    (λ v. tt))
 
 has_value : (e : Expr) → HasValue e
 has_value = ind-Expr HasValue (λ l. HasValue l.right)

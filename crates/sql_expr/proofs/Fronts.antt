@@ -35,25 +35,25 @@ pub goes_on : (pattern text rest behind next : List ℕ) (sign : List ℕ)
     → like_behind next rest ≡ like_behind pattern text
 goes_on pattern text rest behind next sign e parts =
     sym (found_first (characters pattern) (characters text) (characters rest) sign (characters next)
-        (subst (λ (b : Characters). left_over (characters pattern) (characters text) ≡ Some (characters rest, b)) parts e)).some
+    (subst (λ (b : Characters). left_over (characters pattern) (characters text) ≡ Some (characters rest, b)) parts e)).some
 
 pub goes_on_now : (pattern text rest behind next : List ℕ) (sign : List ℕ)
     → left_over (characters pattern) (characters text) ≡ Some (characters rest, characters behind) → characters behind ≡ sign ∷ characters next
     → like_behind next rest ≡ is_like (characters pattern) (characters text)
 goes_on_now pattern text rest behind next sign e parts =
     sym (found_first (characters pattern) (characters text) (characters rest) sign (characters next)
-        (subst (λ (b : Characters). left_over (characters pattern) (characters text) ≡ Some (characters rest, b)) parts e)).whole
+    (subst (λ (b : Characters). left_over (characters pattern) (characters text) ≡ Some (characters rest, b)) parts e)).whole
 
 -- the pattern fits up to its end
 pub ends : (pattern text rest behind : List ℕ) → left_over (characters pattern) (characters text) ≡ Some (characters rest, characters behind)
     → true ≡ nat_eq (length behind) 0 → is_like (characters pattern) (characters text) ≡ nat_eq (length rest) 0
 ends pattern text rest behind e h =
     found_end (characters pattern) (characters text) (characters rest)
-        (subst (λ (b : Characters). left_over (characters pattern) (characters text) ≡ Some (characters rest, b)) (none_left behind h) e)
-      ∙ is_empty_is rest
+    (subst (λ (b : Characters). left_over (characters pattern) (characters text) ≡ Some (characters rest, b)) (none_left behind h) e)
+    ∙ is_empty_is rest
 
 pub later : (pattern text next : List ℕ) (character : List ℕ) → is_like (characters pattern) (characters text) ≡ false → characters text ≡ character ∷ characters next
     → like_behind pattern next ≡ like_behind pattern text
 later pattern text next character h parts =
     some_later (characters pattern) character (characters next) (subst (λ (t : Characters). is_like (characters pattern) t ≡ false) parts h)
-      ∙ ap (holds_behind_some (is_like (characters pattern))) (sym parts)
+    ∙ ap (holds_behind_some (is_like (characters pattern))) (sym parts)

@@ -60,10 +60,8 @@ pub fn eval(expr: &Expr, row: &[Value]) -> Result<Value, EvalFault>
         Expr::Column { place, .. } => copied(&row[*place as usize]),
         _ => match kind_of(expr) {
             SqlType::Boolean => condition(expr, row),
-            SqlType::Integer
-            | SqlType::BigInt
-            | SqlType::HugeInt
-            | SqlType::Decimal { .. } => number(expr, row),
+            SqlType::Integer | SqlType::BigInt | SqlType::HugeInt | SqlType::Decimal { .. } =>
+                number(expr, row),
             SqlType::Varchar => Ok(Value::Null),
         },
     }

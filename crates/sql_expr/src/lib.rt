@@ -21,3 +21,6 @@ pub use plain::{is_plain, plain_conditions_have_values};
 pub use tree::{ChainSign, CompareSign, Expr, Exprs, Link, Links};
 pub use truth::truth_of;
 pub use wildcards::like;
+
+#[cfg(test)]
+mod tests;

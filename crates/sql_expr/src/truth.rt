@@ -138,17 +138,17 @@ fn one_of(of: &Expr, list: &[Expr], row: &[Value]) -> Result<Truth, ValueFault>
     requires comparable { AreComparable row.now (type_of of.now) list.now }
     ensures { one_among (value_of row.now of.now) (map (value_of row.now) list.now) ≡ truth_meaning result }
 {
-    let mut any = Truth::No;
+    let mut found = Truth::No;
     for constant in list {
         match compare(CompareSign::Equal, of, constant, row) {
-            Ok(truth) => any = one(any, truth),
+            Ok(truth) => found = one(found, truth),
             Err(fault) => return Err(fault),
         }
-        if let Truth::Yes = any {
-            return Ok(Truth::Yes);
+        if let Truth::Yes = found {
+            return Ok(found);
         }
     }
-    Ok(any)
+    Ok(found)
 }
 
 #[cycle(truth)]

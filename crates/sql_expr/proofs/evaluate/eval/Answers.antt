@@ -14,18 +14,18 @@ use Rattle.sql_expr.proofs.evaluate.eval.Goals as goal
 
 pub bounds-row-place : goal.bounds-row-place
 bounds-row-place c =
-  column_within c.args.row.now c.args.expr.now c.in-Column.place c.in-Column.kind c.requires
+    column_within c.args.row.now c.args.expr.now c.in-Column.place c.in-Column.kind c.requires
     (ap out-Expr c.in-Column.is ∙ outs-Column c.in-Column.place c.in-Column.kind)
 
 pub returns-in-Column : goal.returns-in-Column
 returns-in-Column c =
-  let is = ap out-Expr c.in-Column.is ∙ outs-Column c.in-Column.place c.in-Column.kind in
-  let within = column_within c.args.row.now c.args.expr.now c.in-Column.place c.in-Column.kind c.requires is in
-  let there = get_or_same c.args.row.now c.in-Column.place c.index-row-place.result Null within c.index-row-place.is in
-  subst (λ (m : Meaning). Tells m c.copied-in-Column.result)
+    let is = ap out-Expr c.in-Column.is ∙ outs-Column c.in-Column.place c.in-Column.kind in
+    let within = column_within c.args.row.now c.args.expr.now c.in-Column.place c.in-Column.kind c.requires is in
+    let there = get_or_same c.args.row.now c.in-Column.place c.index-row-place.result Null within c.index-row-place.is in
+    subst (λ (m : Meaning). Tells m c.copied-in-Column.result)
     (sym (value_out c.args.row.now c.args.expr.now (Expr-F.Column c.in-Column.place c.in-Column.kind) is ∙ ap Ok (sym there)))
     c.copied-in-Column.ensures
 
 pub returns-in-Varchar : goal.returns-in-Varchar
 returns-in-Varchar c =
-  absurd (other_text c.args.row.now c.args.expr.now c.requires (ap family (sym c.kind_of.ensures ∙ c.in-Varchar.is)) c.in_default.not-Constant c.in_default.not-Column)
+    absurd (other_text c.args.row.now c.args.expr.now c.requires (ap family (sym c.kind_of.ensures ∙ c.in-Varchar.is)) c.in_default.not-Constant c.in_default.not-Column)

@@ -85,102 +85,101 @@ truth_of-returns-in-Column t c =
 
 pub every-returns-in-No : goal.every-returns-in-No
 every-returns-in-No t c =
-  let is = drop_is c.args.list.now c.loop-operand.operand-index c.operand-item.result c.loop-operand-test.true c.operand-item.is in
-  let rest = map (value_of c.args.row.now) (drop (c.loop-operand.operand-index + 1) c.args.list.now) in
-  sym c.loop-operand.invariant.value
+    let is = drop_is c.args.list.now c.loop-operand.operand-index c.operand-item.result c.loop-operand-test.true c.operand-item.is in
+    let rest = map (value_of c.args.row.now) (drop (c.loop-operand.operand-index + 1) c.args.list.now) in
+    sym c.loop-operand.invariant.value
     ∙ ap (λ (es : List Expr). every_from (Ok (truth_value c.loop-operand.all)) (map (value_of c.args.row.now) es)) is
     ∙ every_next c.loop-operand.all c.in-Ok.truth c.both-all.result (value_of c.args.row.now c.operand-item.result) rest
-        c.loop-operand.invariant.going c.in-Ok.ensures c.both-all.ensures
+    c.loop-operand.invariant.going c.in-Ok.ensures c.both-all.ensures
     ∙ every_stops c.both-all.result rest c.in-No.is
 
 pub every-loop-operand-preserved : goal.every-loop-operand-preserved
 every-loop-operand-preserved t c =
-  let is = drop_is c.args.list.now c.loop-operand.operand-index c.operand-item.result c.loop-operand-test.true c.operand-item.is in
-  let rest = map (value_of c.args.row.now) (drop (c.loop-operand.operand-index + 1) c.args.list.now) in
-  record {
-    ready = conditions_next c.args.row.now c.args.list.now c.loop-operand.operand-index c.operand-item.result is c.loop-operand.invariant.ready;
-    value = sym (ap (λ (es : List Expr). every_from (Ok (truth_value c.loop-operand.all)) (map (value_of c.args.row.now) es)) is
-      ∙ every_next c.loop-operand.all c.in-Ok.truth c.both-all.result (value_of c.args.row.now c.operand-item.result) rest
+    let is = drop_is c.args.list.now c.loop-operand.operand-index c.operand-item.result c.loop-operand-test.true c.operand-item.is in
+    let rest = map (value_of c.args.row.now) (drop (c.loop-operand.operand-index + 1) c.args.list.now) in
+    record {
+      ready = conditions_next c.args.row.now c.args.list.now c.loop-operand.operand-index c.operand-item.result is c.loop-operand.invariant.ready;
+      value = sym (ap (λ (es : List Expr). every_from (Ok (truth_value c.loop-operand.all)) (map (value_of c.args.row.now) es)) is
+          ∙ every_next c.loop-operand.all c.in-Ok.truth c.both-all.result (value_of c.args.row.now c.operand-item.result) rest
           c.loop-operand.invariant.going c.in-Ok.ensures c.both-all.ensures) ∙ c.loop-operand.invariant.value;
-    going = c.in_default.not-No
-  }
+      going = c.in_default.not-No;
+    }
 
 pub either-returns-in-Yes : goal.either-returns-in-Yes
 either-returns-in-Yes t c =
-  let is = drop_is c.args.list.now c.loop-operand.operand-index c.operand-item.result c.loop-operand-test.true c.operand-item.is in
-  let rest = map (value_of c.args.row.now) (drop (c.loop-operand.operand-index + 1) c.args.list.now) in
-  sym c.loop-operand.invariant.value
+    let is = drop_is c.args.list.now c.loop-operand.operand-index c.operand-item.result c.loop-operand-test.true c.operand-item.is in
+    let rest = map (value_of c.args.row.now) (drop (c.loop-operand.operand-index + 1) c.args.list.now) in
+    sym c.loop-operand.invariant.value
     ∙ ap (λ (es : List Expr). either_from (Ok (truth_value c.loop-operand.any)) (map (value_of c.args.row.now) es)) is
     ∙ either_next c.loop-operand.any c.in-Ok.truth c.one-any.result (value_of c.args.row.now c.operand-item.result) rest
-        c.loop-operand.invariant.going c.in-Ok.ensures c.one-any.ensures
+    c.loop-operand.invariant.going c.in-Ok.ensures c.one-any.ensures
     ∙ either_stops c.one-any.result rest c.in-Yes.is
 
 pub either-loop-operand-preserved : goal.either-loop-operand-preserved
 either-loop-operand-preserved t c =
-  let is = drop_is c.args.list.now c.loop-operand.operand-index c.operand-item.result c.loop-operand-test.true c.operand-item.is in
-  let rest = map (value_of c.args.row.now) (drop (c.loop-operand.operand-index + 1) c.args.list.now) in
-  record {
-    ready = conditions_next c.args.row.now c.args.list.now c.loop-operand.operand-index c.operand-item.result is c.loop-operand.invariant.ready;
-    value = sym (ap (λ (es : List Expr). either_from (Ok (truth_value c.loop-operand.any)) (map (value_of c.args.row.now) es)) is
-      ∙ either_next c.loop-operand.any c.in-Ok.truth c.one-any.result (value_of c.args.row.now c.operand-item.result) rest
+    let is = drop_is c.args.list.now c.loop-operand.operand-index c.operand-item.result c.loop-operand-test.true c.operand-item.is in
+    let rest = map (value_of c.args.row.now) (drop (c.loop-operand.operand-index + 1) c.args.list.now) in
+    record {
+      ready = conditions_next c.args.row.now c.args.list.now c.loop-operand.operand-index c.operand-item.result is c.loop-operand.invariant.ready;
+      value = sym (ap (λ (es : List Expr). either_from (Ok (truth_value c.loop-operand.any)) (map (value_of c.args.row.now) es)) is
+          ∙ either_next c.loop-operand.any c.in-Ok.truth c.one-any.result (value_of c.args.row.now c.operand-item.result) rest
           c.loop-operand.invariant.going c.in-Ok.ensures c.one-any.ensures) ∙ c.loop-operand.invariant.value;
-    going = c.in_default.not-Yes
-  }
+      going = c.in_default.not-Yes;
+    }
 
 pub one_of-compare-requires : goal.one_of-compare-requires
 one_of-compare-requires t c =
-  let is = drop_is c.args.list.now c.loop-constant.constant-index c.constant-item.result c.loop-constant-test.true c.constant-item.is in
-  let h = comparables_now c.args.row.now (kind_of c.args.of.now) c.args.list.now c.loop-constant.constant-index c.constant-item.result is c.loop-constant.invariant.ready in
-  let read = at_most size-Expr c.args.list.now c.loop-constant.constant-index c.constant-item.result c.loop-constant-test.true in
-  let bound : size-Expr c.constant-item.result ≤ most size-Expr c.args.list.now =
-      subst (λ (e : Expr). size-Expr e ≤ most size-Expr c.args.list.now) (sym c.constant-item.is) read in
-  (search (rules, the_lemmas, bound), (c.requires.fits, (h.0, h.1)))
+    let is = drop_is c.args.list.now c.loop-constant.constant-index c.constant-item.result c.loop-constant-test.true c.constant-item.is in
+    let h = comparables_now c.args.row.now (kind_of c.args.of.now) c.args.list.now c.loop-constant.constant-index c.constant-item.result is c.loop-constant.invariant.ready in
+    let read = at_most size-Expr c.args.list.now c.loop-constant.constant-index c.constant-item.result c.loop-constant-test.true in
+    let bound : size-Expr c.constant-item.result ≤ most size-Expr c.args.list.now =
+    subst (λ (e : Expr). size-Expr e ≤ most size-Expr c.args.list.now) (sym c.constant-item.is) read in
+    (search (rules, the_lemmas, bound), (c.requires.fits, (h.0, h.1)))
 
 pub one_of-returns-in-Err : goal.one_of-returns-in-Err
 one_of-returns-in-Err t c =
-  let is = drop_is c.args.list.now c.loop-constant.constant-index c.constant-item.result c.loop-constant-test.true c.constant-item.is in
-  let equal = comparison Equal (value_of c.args.row.now c.args.of.now) in
-  let rest = map equal (map (value_of c.args.row.now) (drop (c.loop-constant.constant-index + 1) c.args.list.now)) in
-  sym c.loop-constant.invariant.value
-    ∙ ap (λ (es : List Expr). either_from (Ok (truth_value c.loop-constant.any)) (map equal (map (value_of c.args.row.now) es))) is
-    ∙ either_fails c.loop-constant.any c.in-Err.fault (equal (value_of c.args.row.now c.constant-item.result)) rest
-        c.loop-constant.invariant.going c.in-Err.ensures
+    let is = drop_is c.args.list.now c.loop-constant.constant-index c.constant-item.result c.loop-constant-test.true c.constant-item.is in
+    let equal = comparison Equal (value_of c.args.row.now c.args.of.now) in
+    let rest = map equal (map (value_of c.args.row.now) (drop (c.loop-constant.constant-index + 1) c.args.list.now)) in
+    sym c.loop-constant.invariant.value
+    ∙ ap (λ (es : List Expr). either_from (Ok (truth_value c.loop-constant.found)) (map equal (map (value_of c.args.row.now) es))) is
+    ∙ either_fails c.loop-constant.found c.in-Err.fault (equal (value_of c.args.row.now c.constant-item.result)) rest
+    c.loop-constant.invariant.going c.in-Err.ensures
 
 pub one_of-returns-in-Yes : goal.one_of-returns-in-Yes
 one_of-returns-in-Yes t c =
-  let is = drop_is c.args.list.now c.loop-constant.constant-index c.constant-item.result c.loop-constant-test.true c.constant-item.is in
-  let equal = comparison Equal (value_of c.args.row.now c.args.of.now) in
-  let rest = map equal (map (value_of c.args.row.now) (drop (c.loop-constant.constant-index + 1) c.args.list.now)) in
-  sym c.loop-constant.invariant.value
-    ∙ ap (λ (es : List Expr). either_from (Ok (truth_value c.loop-constant.any)) (map equal (map (value_of c.args.row.now) es))) is
-    ∙ either_next c.loop-constant.any c.in-Ok.truth c.one-any.result (equal (value_of c.args.row.now c.constant-item.result)) rest
-        c.loop-constant.invariant.going c.in-Ok.ensures c.one-any.ensures
-    ∙ either_stops c.one-any.result rest c.in-Yes.is
+    let is = drop_is c.args.list.now c.loop-constant.constant-index c.constant-item.result c.loop-constant-test.true c.constant-item.is in
+    let equal = comparison Equal (value_of c.args.row.now c.args.of.now) in
+    let rest = map equal (map (value_of c.args.row.now) (drop (c.loop-constant.constant-index + 1) c.args.list.now)) in
+    sym c.loop-constant.invariant.value
+    ∙ ap (λ (es : List Expr). either_from (Ok (truth_value c.loop-constant.found)) (map equal (map (value_of c.args.row.now) es))) is
+    ∙ either_next c.loop-constant.found c.in-Ok.truth c.one-found.result (equal (value_of c.args.row.now c.constant-item.result)) rest
+    c.loop-constant.invariant.going c.in-Ok.ensures c.one-found.ensures
+    ∙ either_stops c.one-found.result rest c.in-Yes.is
 
 pub one_of-loop-constant-preserved : goal.one_of-loop-constant-preserved
 one_of-loop-constant-preserved t c =
-  let is = drop_is c.args.list.now c.loop-constant.constant-index c.constant-item.result c.loop-constant-test.true c.constant-item.is in
-  let equal = comparison Equal (value_of c.args.row.now c.args.of.now) in
-  let rest = map equal (map (value_of c.args.row.now) (drop (c.loop-constant.constant-index + 1) c.args.list.now)) in
-  record {
-    ready = comparables_next c.args.row.now (kind_of c.args.of.now) c.args.list.now c.loop-constant.constant-index c.constant-item.result is c.loop-constant.invariant.ready;
-    value = sym (ap (λ (es : List Expr). either_from (Ok (truth_value c.loop-constant.any)) (map equal (map (value_of c.args.row.now) es))) is
-      ∙ either_next c.loop-constant.any c.in-Ok.truth c.one-any.result (equal (value_of c.args.row.now c.constant-item.result)) rest
-          c.loop-constant.invariant.going c.in-Ok.ensures c.one-any.ensures) ∙ c.loop-constant.invariant.value;
-    going = c.in_default.not-Yes
-  }
+    let is = drop_is c.args.list.now c.loop-constant.constant-index c.constant-item.result c.loop-constant-test.true c.constant-item.is in
+    let equal = comparison Equal (value_of c.args.row.now c.args.of.now) in
+    let rest = map equal (map (value_of c.args.row.now) (drop (c.loop-constant.constant-index + 1) c.args.list.now)) in
+    record {
+      ready = comparables_next c.args.row.now (kind_of c.args.of.now) c.args.list.now c.loop-constant.constant-index c.constant-item.result is c.loop-constant.invariant.ready;
+      value = sym (ap (λ (es : List Expr). either_from (Ok (truth_value c.loop-constant.found)) (map equal (map (value_of c.args.row.now) es))) is
+          ∙ either_next c.loop-constant.found c.in-Ok.truth c.one-found.result (equal (value_of c.args.row.now c.constant-item.result)) rest
+          c.loop-constant.invariant.going c.in-Ok.ensures c.one-found.ensures) ∙ c.loop-constant.invariant.value;
+      going = c.in_default.not-Yes;
+    }
 
 pub truth_of-returns-in-Minus : goal.truth_of-returns-in-Minus
 truth_of-returns-in-Minus t c =
-  absurd (elim c.in-Minus.is [
-      inl h ↦ minus_is_number c.args.row.now c.args.expr.now h.0 h.1 c.requires.fits c.requires.condition (ap out-Expr h.2 ∙ outs-Minus h.0 h.1)
-    | inr h ↦ chain_is_number c.args.row.now c.args.expr.now h.0 h.1 c.requires.fits c.requires.condition (ap out-Expr h.2 ∙ outs-Chain h.0 h.1)
+    absurd (elim c.in-Minus.is [
+      | inl h ↦ minus_is_number c.args.row.now c.args.expr.now h.0 h.1 c.requires.fits c.requires.condition (ap out-Expr h.2 ∙ outs-Minus h.0 h.1)
+      | inr h ↦ chain_is_number c.args.row.now c.args.expr.now h.0 h.1 c.requires.fits c.requires.condition (ap out-Expr h.2 ∙ outs-Chain h.0 h.1)
     ])
 
 pub truth_of-returns-in-Minus-2 : goal.truth_of-returns-in-Minus-2
 truth_of-returns-in-Minus-2 t c =
-  absurd (elim c.in-Minus.is [
-      inl h ↦ minus_is_number c.args.row.now c.args.expr.now h.0 h.1 c.requires.fits c.requires.condition (ap out-Expr h.2 ∙ outs-Minus h.0 h.1)
-    | inr h ↦ chain_is_number c.args.row.now c.args.expr.now h.0 h.1 c.requires.fits c.requires.condition (ap out-Expr h.2 ∙ outs-Chain h.0 h.1)
+    absurd (elim c.in-Minus.is [
+      | inl h ↦ minus_is_number c.args.row.now c.args.expr.now h.0 h.1 c.requires.fits c.requires.condition (ap out-Expr h.2 ∙ outs-Minus h.0 h.1)
+      | inr h ↦ chain_is_number c.args.row.now c.args.expr.now h.0 h.1 c.requires.fits c.requires.condition (ap out-Expr h.2 ∙ outs-Chain h.0 h.1)
     ])
-

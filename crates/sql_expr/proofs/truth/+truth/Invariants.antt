@@ -28,9 +28,9 @@ invariant-either-loop-operand l = record {
 abbrev pub invariant-one_of-loop-constant : goal.invariant-one_of-loop-constant
 invariant-one_of-loop-constant l = record {
   ready : AreComparable l.row (kind_of l.of) (drop l.constant-index l.list);
-  value : either_from (Ok (truth_value l.any)) (map (comparison Equal (value_of l.row l.of)) (map (value_of l.row) (drop l.constant-index l.list)))
+  value : either_from (Ok (truth_value l.found)) (map (comparison Equal (value_of l.row l.of)) (map (value_of l.row) (drop l.constant-index l.list)))
       ≡ either_from (Ok (Truth false)) (map (comparison Equal (value_of l.row l.of)) (map (value_of l.row) l.list));
-  going : l.any ≢ Yes;
+  going : l.found ≢ Yes;
 }
 
 abbrev pub decreases-truth_of : goal.decreases-truth_of
