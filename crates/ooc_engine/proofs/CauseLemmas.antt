@@ -1,5 +1,5 @@
 -- Where each answer of a run comes.
-use Rattle.std.proofs.Common.{◌≡◌, ℕ, suc, zero, ◌+◌, ◌*◌, ◌<◌, ◌⊎◌, inl, inr, Bool, true, false, cond, IsTrue, List, [], ◌∷◌, ◌++◌, length, Option, None, Some, Result, Ok, Err, refl, sym, ap, ◌∙◌, subst, arith, lit<}
+use Rattle.std.proofs.Common.{◌≡◌, ℕ, suc, zero, ◌+◌, ◌*◌, ◌<◌, ◌⊎◌, inl, inr, Bool, true, false, cond, List, [], ◌∷◌, length, Option, None, Some, Result, Ok, Err, refl, sym, ap, ◌∙◌, subst, arith, lit<}
 use Rattle.std.specs.Prelude.{Contains, IfSome}
 use Rattle.std.proofs.Math.Dec.{eqb}
 use Rattle.std.specs.List.{list_all}
@@ -7,7 +7,6 @@ use Rattle.std.specs.FinMap.{get, get-insert, get-empty}
 use Rattle.std.specs.Ordering.{nat_cmp}
 use Rattle.std.specs.Cmp.Lexicographic.{slice_cmp}
 use Rattle.std.specs.Str.{str_to_ascii_lowercase}
-use Rattle.std.specs.Io.KnownBytes.{Appends}
 use Rattle.std.proofs.lemmas.Bool.{and_parts, false≢true, eq-eqb}
 use Rattle.std.proofs.lemmas.Cmp.{nat_list_cmp_total}
 use Rattle.std.proofs.lemmas.Map.Text.{is_eq-slice_cmp}
@@ -18,9 +17,8 @@ use Rattle.ooc_types.specs.declared.value.Value.{Value}
 use Rattle.ooc_types.specs.declared.refusal.RefusalKind.{RefusalKind}
 use Rattle.ooc_types.specs.declared.refusal.RefusalKind.TheVariants.{NoFile, NotBuilt}
 use Rattle.ooc_engine.specs.declared.form.Form.{Form}
-use Rattle.ooc_engine.specs.declared.statement.Filter.{Filter}
 use Rattle.ooc_engine.specs.declared.statement.Statement.{Statement}
-use Rattle.ooc_engine.specs.declared.statement.Statement.TheVariants.{Create, Copy, Select}
+use Rattle.ooc_engine.specs.declared.statement.Statement.TheVariants.{Copy, Select}
 use Rattle.ooc_engine.specs.declared.settings.Settings.{Settings}
 use Rattle.ooc_engine.specs.declared.status.Place.TheVariants.{Whole, Record}
 use Rattle.ooc_engine.specs.declared.status.Refusal.{Refusal}
@@ -30,13 +28,13 @@ use Rattle.ooc_engine.specs.declared.status.UsageFault.{UsageFault}
 use Rattle.ooc_engine.specs.Settings.{settings}
 use Rattle.ooc_engine.specs.Status.{refused, script_refused}
 use Rattle.ooc_engine.specs.Catalog.{Catalog, Table, no_tables, table_at, with_table, more_rows}
-use Rattle.ooc_engine.specs.ScriptText.{IsScript, is_formed, is_table, is_count, is_plain, is_name, is_file_name, is_number, are_columns, have_columns, has_integer, has_column, number_of, statements_of}
+use Rattle.ooc_engine.specs.ScriptText.{IsScript, is_formed, is_table, is_count, is_plain, are_columns, statements_of}
 use Rattle.ooc_engine.specs.FileRows.{file_rows}
-use Rattle.ooc_engine.specs.Block.{Block, no_block}
-use Rattle.ooc_engine.specs.Meaning.{Outcome, Gives, Stops, outcome, created, copied, loaded, selected, is_asked}
+use Rattle.ooc_engine.specs.Block.{no_block}
+use Rattle.ooc_engine.specs.Meaning.{Gives, Stops, outcome, created, copied, loaded, selected, is_asked}
 use Rattle.ooc_engine.specs.Script.{Script, script_of, IsTree, IsOpened, IsOpenedWith}
 use Rattle.ooc_engine.specs.Says.{MayCut, Says, ends_after, run_ends, script_ends}
-use Rattle.ooc_engine.specs.Causes.{IsFormOf, LacksScript, HasNoScript, HasScript, LacksFile, HasNoRows, HasRows, Comes, refusals, HasCause}
+use Rattle.ooc_engine.specs.Causes.{IsFormOf, LacksScript, HasNoScript, HasScript, LacksFile, HasNoRows, HasRows, refusals, HasCause}
 use Rattle.ooc_engine.specs.Plain.{asks, table_of}
 use Rattle.ooc_engine.proofs.FormLemmas.{same_bytes}
 use Rattle.ooc_engine.proofs.FormFound.{one_script}

@@ -1,5 +1,5 @@
 -- A run is the blocks of the first m statements, and then a line.
-use Rattle.std.proofs.Common.{◌≡◌, ℕ, ◌+◌, zero, suc, inl, inr, List, [], ◌∷◌, ◌++◌, refl, sym, ap, ◌∙◌, append_assoc, subst, arith, ◌≤◌, length, take, Option, None, Some}
+use Rattle.std.proofs.Common.{◌≡◌, ℕ, ◌+◌, zero, suc, inl, inr, List, [], ◌∷◌, ◌++◌, refl, sym, ap, ◌∙◌, append_assoc, subst, arith, ◌≤◌, length, take}
 use Rattle.std.proofs.lemmas.Option.{none-some, same_Some}
 use Rattle.ooc_engine.specs.Catalog.{Catalog}
 use Rattle.ooc_engine.specs.Block.{Block, IsPrinted}

@@ -1,5 +1,5 @@
 -- A plain run is one that the definition has.
-use Rattle.std.proofs.Common.{◌≡◌, ℕ, ◌<◌, ◌+◌, inl, inr, Bool, true, false, cond, List, [], ◌∷◌, ◌++◌, length, map, filter, Option, None, Some, Result, Ok, Err, refl, sym, ap, ◌∙◌, append-nil, subst, arith, lit<}
+use Rattle.std.proofs.Common.{◌≡◌, ℕ, ◌<◌, ◌+◌, inl, Bool, true, cond, List, [], ◌∷◌, ◌++◌, length, map, filter, Option, None, Some, Result, Ok, Err, refl, sym, ap, ◌∙◌, append-nil, subst, arith, lit<}
 use Rattle.std.specs.Prelude.{Vec, IfOk, ◌≤◌, Contains, ◌&&◌, flat_map}
 use Rattle.std.specs.FinMap.{get, get-empty}
 use Rattle.std.specs.Ordering.{nat_cmp}
@@ -7,7 +7,6 @@ use Rattle.std.specs.Cmp.Lexicographic.{slice_cmp}
 use Rattle.std.specs.Str.{str_to_ascii_lowercase}
 use Rattle.std.proofs.lemmas.Bool.{and_parts}
 use Rattle.ooc_io.specs.Held.{Held}
-use Rattle.ooc_types.specs.declared.refusal.RefusalKind.{RefusalKind}
 use Rattle.ooc_types.specs.declared.refusal.RefusalKind.TheVariants.{NoFile, NotBuilt}
 use Rattle.ooc_types.specs.declared.value.Value.{Value}
 use Rattle.result_print.specs.Printed.{block_text, header_text, row_text, field_text, line_text, column_text}
@@ -19,15 +18,13 @@ use Rattle.ooc_engine.specs.declared.statement.Statement.{Statement}
 use Rattle.ooc_engine.specs.declared.statement.Statement.TheVariants.{Create, Copy, Select}
 use Rattle.ooc_engine.specs.declared.status.Place.TheVariants.{Whole, Record}
 use Rattle.ooc_engine.specs.declared.status.Status.{Status}
-use Rattle.ooc_engine.specs.declared.status.Status.TheVariants.{Done}
-use Rattle.ooc_engine.specs.Settings.{settings}
 use Rattle.ooc_engine.specs.Status.{refused, script_refused}
 use Rattle.ooc_engine.specs.Lines.{line_of}
 use Rattle.ooc_engine.specs.Block.{no_block, InAnyOrder}
-use Rattle.ooc_engine.specs.Catalog.{Catalog, Table, no_tables, table_at, with_table, more_rows}
+use Rattle.ooc_engine.specs.Catalog.{Catalog, Table, no_tables, table_at, with_table}
 use Rattle.ooc_engine.specs.ScriptText.{number_of, IsScript, is_formed, is_count, have_columns, has_integer, most, statements_of}
 use Rattle.ooc_engine.specs.FileRows.{file_rows}
-use Rattle.ooc_engine.specs.Meaning.{place_of, value_at, passes, picked_row, Outcome, Gives, Stops, outcome, created, copied, loaded, selected, picked_columns, picked_rows}
+use Rattle.ooc_engine.specs.Meaning.{place_of, value_at, passes, picked_row, Gives, Stops, outcome, created, copied, loaded, selected, picked_columns, picked_rows}
 use Rattle.ooc_engine.specs.Script.{Script, script_of, IsOpened}
 use Rattle.ooc_engine.specs.Says.{Run, Writes, Says, Ends, script_ends}
 use Rattle.ooc_engine.specs.Causes.{IsFormOf}
@@ -37,7 +34,6 @@ use Rattle.ooc_engine.proofs.FormFound.{form_is, no_form}
 use Rattle.ooc_engine.proofs.RunLemmas.{Run-ran, Run-stopped}
 use Rattle.ooc_engine.proofs.SelectLemmas.{names_are}
 use Rattle.ooc_engine.proofs.CauseLemmas.{at_put, form_table, form_asked, as_form, ends_of_form, ends_over, ends_with, opened_by}
-use Rattle.ooc_bags.specs.Bags.{SameBag}
 
 only_one : (x : Status) → Contains (x ∷ []) x
 only_one x = (0, lit< tt, refl)

@@ -1,5 +1,5 @@
 -- The table of causes: where each answer of a run of the first form comes.
-use Rattle.std.specs.Prelude.{ℕ, ◌≡◌, ◌≤◌, ◌⊎◌, IsTrue, List, [], ◌∷◌, length, Option, None, Some, Ok, Contains}
+use Rattle.std.specs.Prelude.{ℕ, ◌≡◌, ◌≤◌, ◌⊎◌, IsTrue, List, [], ◌∷◌, length, None, Some, Ok, Contains}
 use Rattle.std.specs.FinMap.{get}
 use Rattle.ooc_io.specs.Held.{Held}
 use Rattle.ooc_types.specs.declared.value.Value.{Value}

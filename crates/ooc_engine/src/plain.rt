@@ -54,11 +54,7 @@ fn value_of(alloc: Global, kind: SqlType, field: &[u8]) -> Result<Option<Value>,
 }
 
 // The values of a record's fields, one for each column.
-fn row_of(
-    alloc: Global,
-    columns: &[Column],
-    fields: &[&[u8]],
-) -> Result<Option<Row>, OutOfMemory>
+fn row_of(alloc: Global, columns: &[Column], fields: &[&[u8]]) -> Result<Option<Row>, OutOfMemory>
     ensures { IfOk result (λ row. row ≡ row_of columns.now (map (λ field. field.now) fields.now)) }
 {
     let mut row = Row::new_row(alloc);

@@ -1,4 +1,4 @@
-use Rattle.std.proofs.Common.{◌≡◌, ◌∙◌, ap, ℕ, List}
+use Rattle.std.proofs.Common.{◌≡◌, ◌∙◌, ap}
 use Rattle.ooc_engine.specs.ScriptText.{number_of}
 use Rattle.ooc_engine.specs.Meaning.{place_of}
 use Rattle.ooc_engine.proofs.PlainLemmas.{block_made}
