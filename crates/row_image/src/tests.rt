@@ -114,7 +114,13 @@ fn first_broken_rule(rt: HostRuntime) {
         };
         assert_eq!(rt; check(&rows, &image), Err(damage), "bytes {a} and {b}");
     }
-    let mut unheaped = good;
+}
+
+// A page that forgets its heap page: the base must be 0, and then no long text can lie anywhere.
+#[test]
+fn long_texts_lie_on_the_heap_page_of_their_part(rt: HostRuntime) {
+    let rows = ImageKind::Rows(truth_and_text());
+    let mut unheaped = two_rows();
     for place in 40..44 {
         set(&mut unheaped, place, 255);
     }
@@ -131,7 +137,10 @@ fn first_broken_rule(rt: HostRuntime) {
         bound: 4096,
     };
     assert_eq!(rt; check(&rows, &unheaped), Err(damage));
+}
 
+#[test]
+fn heap_pages_and_pages_of_any_bytes(rt: HostRuntime) {
     let mut heap = [0; 4096];
     let damage = Damage {
         field: DamageField::Kind,
