@@ -30,9 +30,9 @@ others_stay actor other (x ∷ xs) ne h =
     elim (cases_Bool (eqb x actor)) [
       | inl same ↦ rw same (elim (first_or_later x other xs h) [ inl e ↦ absurd (ne (sym e ∙ eqb-true x actor same)) | inr later ↦ later ])
       | inr differs ↦ rw differs (elim (first_or_later x other xs h) [
-          | inl e ↦ as_first x other (without_one actor xs) e
-          | inr later ↦ as_later x other (without_one actor xs) (others_stay actor other xs ne later)
-        ])
+        | inl e ↦ as_first x other (without_one actor xs) e
+        | inr later ↦ as_later x other (without_one actor xs) (others_stay actor other xs ne later)
+      ])
     ]
 
 pub found_in : (actor : ℕ) (xs : List ℕ) → list_any (λ x. eqb x actor) xs ≡ true → Contains xs actor
@@ -49,9 +49,9 @@ passed test [] x h = absurd (nothing_in x h)
 passed test (y ∷ ys) x h =
     elim (cases_Bool (test y)) [
       | inl pass ↦ elim (first_or_later y x (filter test ys) (rw pass at h)) [
-          | inl e ↦ (as_first y x ys e, ap test (sym e) ∙ pass)
-          | inr later ↦ let both = passed test ys x later in (as_later y x ys both.0, both.1)
-        ]
+        | inl e ↦ (as_first y x ys e, ap test (sym e) ∙ pass)
+        | inr later ↦ let both = passed test ys x later in (as_later y x ys both.0, both.1)
+      ]
       | inr no_one ↦ let both = passed test ys x (rw no_one at h) in (as_later y x ys both.0, both.1)
     ]
 

@@ -28,9 +28,11 @@ pub pages_out : (bytes : ℕ) (turns turns' : List CoreTurn) (pages : List CoreP
     → slice_get turns frame ≡ Some t → Puts turns turns' frame (record t { out = out }) → PagesLie bytes turns' pages
 pages_out bytes turns turns' pages frame t out lie e put q p there f has =
     let h = lie q p there f has in
-    let P : CoreTurn → Type 0 = λ u. u.turn.owner ≡ Some q in
-    (h.0, on_put turns turns' frame (record t { out = out }) f.number P P put h.1
-      (λ u same is hu. subst P (same_at (slice_get turns frame) u t is e) hu) (λ u ne hu. hu))
+    let P : CoreTurn → Type 0 = λ u. u.turn.owner ≡ Some q in (
+      h.0,
+      on_put turns turns' frame (record t { out = out }) f.number P P put h.1
+          (λ u same is hu. subst P (same_at (slice_get turns frame) u t is e) hu) (λ u ne hu. hu),
+    )
 
 -- a page's body keeps its frame
 pub record KeepsFrame (old new : PageBody) : Type 0 where
@@ -41,16 +43,18 @@ pub turns_kept : (bytes : ℕ) (turns : List CoreTurn) (pages pages' : List Core
     → slice_get pages page ≡ Some p → Puts pages pages' page p' → KeepsFrame p.body p'.body → TurnsLie bytes turns pages'
 turns_kept bytes turns pages pages' page p p' lie e put keeps n u there =
     let P : CorePage → Type 0 = λ x. HasFrame n x.body in
-    let h = lie n u there in
-    (h.0, lies_moved bytes pages pages' n u.turn.spare u.turn.owner h.1 (λ q here. on_put pages pages' page p' q P P put here
-      (λ x same is hx. keeps.has n (subst P (same_at (slice_get pages page) x p is e) hx)) (λ x ne hx. hx)))
+    let h = lie n u there in (
+      h.0,
+      lies_moved bytes pages pages' n u.turn.spare u.turn.owner h.1 (λ q here. on_put pages pages' page p' q P P put here
+          (λ x same is hx. keeps.has n (subst P (same_at (slice_get pages page) x p is e) hx)) (λ x ne hx. hx)),
+    )
 
 pub pages_kept : (bytes : ℕ) (turns : List CoreTurn) (pages pages' : List CorePage) (page : ℕ) (p p' : CorePage) → PagesLie bytes turns pages
     → slice_get pages page ≡ Some p → Puts pages pages' page p' → KeepsFrame p.body p'.body → PagesLie bytes turns pages'
 pages_kept bytes turns pages pages' page p p' lie e put keeps =
     each_put pages pages' page p' (λ q x. BodyLies bytes turns q x.body) put
     (λ f has. let g = keeps.had f has in let h = lie page p e g.0 g.1 in
-      (g.3 ∙ h.0, let P : ℕ → Type 0 = λ n. OnTurn turns n (λ t. t.turn.owner ≡ Some page) in subst P (sym g.2) h.1))
+    (g.3 ∙ h.0, let P : ℕ → Type 0 = λ n. OnTurn turns n (λ t. t.turn.owner ≡ Some page) in subst P (sym g.2) h.1))
     (λ q x ne there. lie q x there)
 
 -- a page without a frame, which may be a new one, gets that of a turn
@@ -63,9 +67,11 @@ turns_given bytes turns turns' pages pages' frame page t p' lie e put none page_
     each_put turns turns' frame (owned t page) (λ n u. (u.turn.frame ≡ n) × FrameLies bytes pages' n u.turn.spare u.turn.owner) put
     ((lie frame t e).0, at_some (slice_get pages' page) (λ p. HasFrame frame p.body) p' page_put.there has)
     (λ n u ne there. let h = lie n u there in
-      let P : CorePage → Type 0 = λ x. HasFrame n x.body in
-      (h.0, lies_moved bytes pages pages' n u.turn.spare u.turn.owner h.1 (λ q here. on_put pages pages' page p' q P P page_put here
-        (λ x same is hx. absurd (none x is n hx)) (λ x ne hx. hx))))
+    let P : CorePage → Type 0 = λ x. HasFrame n x.body in (
+      h.0,
+      lies_moved bytes pages pages' n u.turn.spare u.turn.owner h.1 (λ q here. on_put pages pages' page p' q P P page_put here
+          (λ x same is hx. absurd (none x is n hx)) (λ x ne hx. hx)),
+    ))
 
 pub pages_given : (bytes : ℕ) (turns turns' : List CoreTurn) (pages pages' : List CorePage) (frame page : ℕ) (t : CoreTurn) (p' : CorePage) (f : Frame) → PagesLie bytes turns pages
     → slice_get turns frame ≡ Some t → t.turn.owner ≡ None → Puts turns turns' frame (owned t page) → Puts pages pages' page p'
@@ -77,9 +83,11 @@ pages_given bytes turns turns' pages pages' frame page t p' f lie e free put pag
     each_put pages pages' page p' (λ q x. BodyLies bytes turns' q x.body) page_put
     (λ g has'. subst Q (same_at (frame_of p'.body) f g has has') mine)
     (λ q x ne there g has'. let h = lie q x there g has' in
-      let P : CoreTurn → Type 0 = λ u. u.turn.owner ≡ Some q in
-      (h.0, on_put turns turns' frame (owned t page) g.number P P put h.1
-        (λ u same is hu. absurd (let owner : t.turn.owner ≡ Some q = subst P (same_at (slice_get turns frame) u t is e) hu in cc)) (λ u ne hu. hu)))
+    let P : CoreTurn → Type 0 = λ u. u.turn.owner ≡ Some q in (
+      h.0,
+      on_put turns turns' frame (owned t page) g.number P P put h.1
+          (λ u same is hu. absurd (let owner : t.turn.owner ≡ Some q = subst P (same_at (slice_get turns frame) u t is e) hu in cc)) (λ u ne hu. hu),
+    ))
 
 -- a page's frame goes back to its turn
 pub turns_taken : (bytes : ℕ) (turns turns' : List CoreTurn) (pages pages' : List CorePage) (page : ℕ) (t : CoreTurn) (p p' : CorePage) (f : Frame) → TurnsLie bytes turns pages
@@ -89,10 +97,12 @@ turns_taken bytes turns turns' pages pages' page t p p' f lie pages_lie e put is
     each_put turns turns' f.number (spared t f) (λ n u. (u.turn.frame ≡ n) × FrameLies bytes pages' n u.turn.spare u.turn.owner) put
     ((lie f.number t e).0, (refl, (pages_lie page p is_page f has).0, refl))
     (λ n u ne there. let h = lie n u there in
-      let P : CorePage → Type 0 = λ x. HasFrame n x.body in
-      (h.0, lies_moved bytes pages pages' n u.turn.spare u.turn.owner h.1 (λ q here. on_put pages pages' page p' q P P page_put here
-        (λ x same is hx. absurd (ne (sym (of_some (frame_of p.body) (λ g. g.number ≡ n) f has (subst P (same_at (slice_get pages page) x p is is_page) hx)))))
-        (λ x ne hx. hx))))
+    let P : CorePage → Type 0 = λ x. HasFrame n x.body in (
+      h.0,
+      lies_moved bytes pages pages' n u.turn.spare u.turn.owner h.1 (λ q here. on_put pages pages' page p' q P P page_put here
+          (λ x same is hx. absurd (ne (sym (of_some (frame_of p.body) (λ g. g.number ≡ n) f has (subst P (same_at (slice_get pages page) x p is is_page) hx)))))
+          (λ x ne hx. hx)),
+    ))
 
 pub pages_taken : (bytes : ℕ) (turns turns' : List CoreTurn) (pages pages' : List CorePage) (page : ℕ) (t : CoreTurn) (p p' : CorePage) (f : Frame) → PagesLie bytes turns pages
     → slice_get turns f.number ≡ Some t → Puts turns turns' f.number (spared t f) → slice_get pages page ≡ Some p → frame_of p.body ≡ Some f
@@ -102,6 +112,8 @@ pages_taken bytes turns turns' pages pages' page t p p' f lie e put is_page has 
     each_put pages pages' page p' (λ q x. BodyLies bytes turns' q x.body) page_put
     (λ g has'. absurd (let h : ⊥ = cc in h))
     (λ q x ne there g has'. let h = lie q x there g has' in
-      let P : CoreTurn → Type 0 = λ u. u.turn.owner ≡ Some q in
-      (h.0, on_put turns turns' f.number (spared t f) g.number P P put h.1
-        (λ u same is hu. absurd (ne (let owner : t.turn.owner ≡ Some q = subst P (same_at (slice_get turns f.number) u t is e) hu in cc))) (λ u ne hu. hu)))
+    let P : CoreTurn → Type 0 = λ u. u.turn.owner ≡ Some q in (
+      h.0,
+      on_put turns turns' f.number (spared t f) g.number P P put h.1
+          (λ u same is hu. absurd (ne (let owner : t.turn.owner ≡ Some q = subst P (same_at (slice_get turns f.number) u t is e) hu in cc))) (λ u ne hu. hu),
+    ))

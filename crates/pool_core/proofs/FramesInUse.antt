@@ -73,5 +73,5 @@ frames_few bytes turns pages lie =
     length-le_from_distinct_below (frames_in_use pages) (length turns)
     (distinct number pages (λ i j x y n xi yj xn yn. frames_apart bytes turns pages lie i j x y n xi yj (numbered (frame_of x.body) n xn) (numbered (frame_of y.body) n yn)))
     (low number pages (length turns) (λ j x n there is.
-      let some = some_of (slice_get turns n) (λ t. t.turn.owner ≡ Some j) (owner_is bytes turns pages j n x lie there (numbered (frame_of x.body) n is)) in
-      slice_get_within turns n some.0 some.1))
+    let some = some_of (slice_get turns n) (λ t. t.turn.owner ≡ Some j) (owner_is bytes turns pages j n x lie there (numbered (frame_of x.body) n is)) in
+    slice_get_within turns n some.0 some.1))

@@ -127,21 +127,22 @@ marks_after bytes old new place actor p marks e put hold =
           (marks_kept bytes old new marks hold (more_stays old new place p readers p.writer e put (λ other reads. claim_kept actor other p.readers still reads)))
       | inr last ↦ subst M (sym (left_gone new actor place readers marks last))
           (λ mark has.
-            let both = passed (λ mark. not (rests_on new actor place mark)) marks mark has in
-            look_kept bytes old new mark.actor mark.page (hold mark both.0) (rest_of mark (not-true (rests_on new actor place mark) both.1)))
+          let both = passed (λ mark. not (rests_on new actor place mark)) marks mark has in
+          look_kept bytes old new mark.actor mark.page (hold mark both.0) (rest_of mark (not-true (rests_on new actor place mark) both.1)))
     ]
   where
     claim_kept : (actor other : ℕ) (xs : List ℕ) → list_any (λ reader. eqb reader actor) (without_one actor xs) ≡ true → Contains xs other → Contains (without_one actor xs) other
     claim_kept actor other xs still reads =
         let P : ℕ → Type 0 = λ a. Contains (without_one actor xs) a in
         elim (cases_eq other actor) [ inl same ↦ subst P (sym same) (found_in actor (without_one actor xs) still) | inr ne ↦ others_stay actor other xs ne reads ]
+
     rest_of : (mark : Mark) → rests_on new actor place mark ≡ false → RestStays old new mark.actor mark.page
     rest_of mark none = elim (cases_eq mark.actor actor) [
       | inl same ↦ let P : ℕ → Type 0 = λ a. rests_on new a place mark ≡ false in apart old new place (record p { readers = without_one actor p.readers }) put mark (subst P (sym same) none)
       | inr ne ↦ record {
-          rows = λ x there reads. actor_stays old new place p (without_one actor p.readers) p.writer e put mark.actor (others_stay actor mark.actor p.readers ne) mark.page x there reads;
-          heaps = λ x part heap there named q is reads. actor_stays old new place p (without_one actor p.readers) p.writer e put mark.actor (others_stay actor mark.actor p.readers ne) heap q is reads;
-        }
+        rows = λ x there reads. actor_stays old new place p (without_one actor p.readers) p.writer e put mark.actor (others_stay actor mark.actor p.readers ne) mark.page x there reads;
+        heaps = λ x part heap there named q is reads. actor_stays old new place p (without_one actor p.readers) p.writer e put mark.actor (others_stay actor mark.actor p.readers ne) heap q is reads;
+      }
     ]
 
 -- an actor looks

@@ -38,9 +38,9 @@ claims_same old new place p readers writer e put page x there read =
     let P : CorePage → Type 0 = λ q. IsSamePage x q in
     elim (cases_eq page place) [
       | inl same ↦
-        let is : p ≡ x = same_at (slice_get old place) p x e (ap (slice_get old) (sym same) ∙ there) in
-        at_some (slice_get new page) P (changed p p.body readers writer) (ap (slice_get new) same ∙ put.there)
-        (let Q : CorePage → Type 0 = λ y. IsSamePage y (changed p p.body readers writer) in subst Q is (record { kind = refl; content = refl; heaps = refl; body = refl }))
+          let is : p ≡ x = same_at (slice_get old place) p x e (ap (slice_get old) (sym same) ∙ there) in
+          at_some (slice_get new page) P (changed p p.body readers writer) (ap (slice_get new) same ∙ put.there)
+          (let Q : CorePage → Type 0 = λ y. IsSamePage y (changed p p.body readers writer) in subst Q is (record { kind = refl; content = refl; heaps = refl; body = refl }))
       | inr ne ↦ at_some (slice_get new page) P x (put.others page ne ∙ there) (same_page x)
     ]
 

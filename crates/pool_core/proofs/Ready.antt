@@ -47,8 +47,8 @@ pub spare_of : (s : State) → Sound s → (actor frame : ℕ) → HasSpare s.tu
 spare_of s sound actor frame h =
     on_some (slice_get s.turns frame) (λ t. (t.out ≡ Some actor) × IsSome t.turn.spare) (λ t. IsSomeAnd t.turn.spare (λ f. length f.bytes.items ≡ s.page)) h
     (λ t there has.
-      let some = the_value t.turn.spare has.1 in
-      at_some t.turn.spare (λ f. length f.bytes.items ≡ s.page) some.0 some.1 (spare_long s.page s.pages frame t.turn.spare t.turn.owner some.0 (sound.turns frame t there).1 some.1))
+    let some = the_value t.turn.spare has.1 in
+    at_some t.turn.spare (λ f. length f.bytes.items ≡ s.page) some.0 some.1 (spare_long s.page s.pages frame t.turn.spare t.turn.owner some.0 (sound.turns frame t there).1 some.1))
 
 kept_there : (kind : ImageKind) (content : List ℕ) (kept : Option (List ℕ)) → KeptStands true kind content kept → (image : List ℕ) × (kept ≡ Some image)
 kept_there kind content None h = absurd h
@@ -73,8 +73,8 @@ can_install s sound actor page frame h =
     on_some (slice_get s.turns frame) (λ t. IsSomeAnd t.turn.spare (λ f. length f.bytes.items ≡ s.page)) (λ t. IsSomeAnd t.turn.spare (λ f. OnPage s.pages page (λ p. IsResting p.body × IsSomeAnd (kept_of p.body) (λ image. length image ≡ length f.bytes.items))))
     (spare_of s sound actor frame some.2.1.1)
     (λ t there spare. on_some t.turn.spare (λ f. length f.bytes.items ≡ s.page) (λ f. OnPage s.pages page (λ p. IsResting p.body × IsSomeAnd (kept_of p.body) (λ image. length image ≡ length f.bytes.items))) spare
-      (λ f is long. at_some (slice_get s.pages page) (λ p. IsResting p.body × IsSomeAnd (kept_of p.body) (λ image. length image ≡ length f.bytes.items)) p some.1
-        (kept.0, on_some (kept_of p.body) (λ image. length image ≡ s.page) (λ image. length image ≡ length f.bytes.items) kept.1 (λ image same size. size ∙ sym long))))
+    (λ f is long. at_some (slice_get s.pages page) (λ p. IsResting p.body × IsSomeAnd (kept_of p.body) (λ image. length image ≡ length f.bytes.items)) p some.1
+    (kept.0, on_some (kept_of p.body) (λ image. length image ≡ s.page) (λ image. length image ≡ length f.bytes.items) kept.1 (λ image same size. size ∙ sym long))))
 
 -- what a rest asks for
 pub can_rest : (s : State) (actor page : ℕ) → OnPage s.pages page (λ p. (p.writer ≡ Some actor) × CanChange s.page s.turns actor p Rest)
@@ -82,7 +82,7 @@ pub can_rest : (s : State) (actor page : ℕ) → OnPage s.pages page (λ p. (p.
 can_rest s actor page h =
     on_some (slice_get s.pages page) (λ p. (p.writer ≡ Some actor) × CanChange s.page s.turns actor p Rest) (λ p. IsSomeAnd (frame_of p.body) (λ f. f.number < length s.turns)) h
     (λ p there can. on_some (frame_of p.body) (λ f. IsOut s.turns actor f.number) (λ f. f.number < length s.turns) can.1
-      (λ f is out. let some = some_of (slice_get s.turns f.number) (λ t. t.out ≡ Some actor) out in slice_get_within s.turns f.number some.0 some.1))
+    (λ f is out. let some = some_of (slice_get s.turns f.number) (λ t. t.out ≡ Some actor) out in slice_get_within s.turns f.number some.0 some.1))
 
 -- what a rebase asks for
 abbrev pub CanRebase : CorePage → ℕ → ℕ → Type 0

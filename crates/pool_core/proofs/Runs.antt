@@ -74,9 +74,10 @@ event_there events ys event rest k whole count = ap (slice_get events) count ∙
 
 pub stopped_at : (old new : State) (events ys : List Event) (event : Event) (rest : List Event) (k : ℕ) → ys ++ event ∷ rest ≡ events → k ≡ length ys → Ran old ys new → (Enabled new event → ⊥)
     → Ran old (take k events) new × IsSomeAnd (slice_get events k) (λ event. Enabled new event → ⊥)
-stopped_at old new events ys event rest k whole count ran none =
-    (ran_front old new events ys event rest k whole count ran,
-      at_some (slice_get events k) (λ event. Enabled new event → ⊥) event (event_there events ys event rest k whole count) none)
+stopped_at old new events ys event rest k whole count ran none = (
+  ran_front old new events ys event rest k whole count ran,
+  at_some (slice_get events k) (λ event. Enabled new event → ⊥) event (event_there events ys event rest k whole count) none,
+)
 
 pub short_of_memory : (old mid new : State) (events ys : List Event) (event : Event) (rest : List Event) (k : ℕ) → ys ++ event ∷ rest ≡ events → k ≡ length ys → Ran old ys mid → new ≡ mid
     → (n : ℕ) × (n < length events) × Ran old (take n events) new

@@ -100,7 +100,7 @@ new_heaps s sound actor frame kind image heaps f can =
     let B : CorePage → Type 0 = λ h. IsHeap h.kind × IsLive h.body in
     each_put s.pages pages (length s.pages) p' (λ q x. (part : ℕ) → part < 4 → (heap : ℕ) → get_or x.heaps part None ≡ Some heap → OnPage pages heap P) (puts_push s.pages p')
     (λ part few heap named. heap_there s.pages p' heap P
-      (let some = some_of (slice_get s.pages heap) B (named_is s.pages kind image part (get_or heaps part None) heap (can.heaps part few) named) in at_some (slice_get s.pages heap) P some.0 some.1 some.2.0))
+    (let some = some_of (slice_get s.pages heap) B (named_is s.pages kind image part (get_or heaps part None) heap (can.heaps part few) named) in at_some (slice_get s.pages heap) P some.0 some.1 some.2.0))
     (λ q x ne there part few heap named. heap_there s.pages p' heap P (sound.heaps q x there part few heap named))
 
 new_stands : (bytes : ℕ) (kind : ImageKind) (image : List ℕ) (heaps : List (Option ℕ)) (f : Frame) → length image ≡ bytes → length image ≡ length f.bytes.items → IsAccepted kind image

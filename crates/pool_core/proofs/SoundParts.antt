@@ -55,7 +55,6 @@ page_changed s sound page p body readers writer marks e keeps stands marked =
 pub stands_claimed : (bytes : ℕ) (p : CorePage) (readers : List ℕ) (writer : Option ℕ) → PageStands bytes p → (IsSome writer → readers ≡ []) → PageStands bytes (changed p p.body readers writer)
 stands_claimed bytes p readers writer h claimed = record { claimed = claimed; sealed = h.sealed; whole = h.whole; stands = h.stands; kept = h.kept }
 
-
 -- and with the body that its writer put
 pub stands_put : (bytes : ℕ) (p : CorePage) (body : PageBody) → PageStands bytes p → BodyStands bytes p.kind (content_of p) body → PageStands bytes (put p body)
 stands_put bytes p body h b = record { claimed = λ some. absurd (let e : ⊥ = cc in e); sealed = h.sealed; whole = h.whole; stands = b.stands; kept = b.kept }

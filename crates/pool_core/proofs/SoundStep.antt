@@ -52,7 +52,7 @@ read_sound s actor page p sound e free =
 
 leave_sound : (s : State) (actor page : ℕ) (p : CorePage) → Sound s → slice_get s.pages page ≡ Some p
     → (let readers = without_one actor p.readers in let pages = slice_set s.pages page (record p { readers = readers }) in
-      Sound (record s { pages = pages; marks = marks_left pages actor page readers s.marks }))
+    Sound (record s { pages = pages; marks = marks_left pages actor page readers s.marks }))
 leave_sound s actor page p sound e =
     let readers = without_one actor p.readers in
     let p' = changed p p.body readers p.writer in
@@ -98,7 +98,7 @@ change_sound s actor page p Rest new sound e writer can acts =
 change_sound s actor page p (Rebase part base) new sound e writer can acts =
     let h = sound.stand page p e in
     subst Sound (sym acts.2) (put_sound s actor page p acts.0 sound e writer (rebased_frame p.kind part base p.body acts.0 acts.1)
-      (rebased_stands s.page p.kind part base (content_of p) p.body acts.0 acts.1 (record { stands = h.stands; kept = h.kept })))
+    (rebased_stands s.page p.kind part base (content_of p) p.body acts.0 acts.1 (record { stands = h.stands; kept = h.kept })))
 change_sound s actor page p Kill new sound e writer can acts =
     subst Sound (sym acts) (put_sound s actor page p (killed p.body) sound e writer (killed_frame p.body) (killed_stands s.page p.kind (content_of p) p.body))
 

@@ -84,7 +84,10 @@ texts_stand s sound mark p kinds row column prefix size address has there kind b
       heap = heap;
       lies = subst L same on.2.lies_flat;
       named = named.1;
-      found = at_some (slice_get s.pages heap) (λ h. IsHeap h.kind × IsResident h.body × IsSomeAnd (frame_of h.body) (λ f. IsTextAt s.page p h kinds row column size address f)) h found.1
-          (is_heap, frame.4, at_some (frame_of h.body) (λ f. IsTextAt s.page p h kinds row column size address f) f frame.1
-            (text_at s.page p h kinds image row column size address f both.0 same frame.3 followed));
+      found = at_some (slice_get s.pages heap) (λ h. IsHeap h.kind × IsResident h.body × IsSomeAnd (frame_of h.body) (λ f. IsTextAt s.page p h kinds row column size address f)) h found.1 (
+        is_heap,
+        frame.4,
+        at_some (frame_of h.body) (λ f. IsTextAt s.page p h kinds row column size address f) f frame.1
+            (text_at s.page p h kinds image row column size address f both.0 same frame.3 followed),
+      );
     }

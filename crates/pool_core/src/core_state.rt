@@ -6,11 +6,9 @@ ghost use Rattle.pool_core.specs.Effects.{Acts};
 ghost use Rattle.pool_core.specs.Run.{Opened, Ran, Stops};
 ghost use Rattle.pool_core.specs.Sound.{Sound};
 
-use crate::enabled;
 use crate::event::Event;
-use crate::opening;
 use crate::state::Parts;
-use crate::step;
+use crate::{enabled, opening, step};
 use ooc_io::OutOfMemory;
 use std::alloc::Global;
 use std::marker::Model;

@@ -168,7 +168,13 @@ fn holds_heap(bytes: u32, pages: &[CorePage], actor: u32, base: u64, page: u64) 
 }
 
 // Whether what is named for a part is a live heap page where the part has one, and else nothing.
-fn names_heap(pages: &[CorePage], kind: &ImageKind, image: &[u8], part: u32, named: Option<u64>) -> bool
+fn names_heap(
+    pages: &[CorePage],
+    kind: &ImageKind,
+    image: &[u8],
+    part: u32,
+    named: Option<u64>,
+) -> bool
     requires page { IsPage (length image.now) }
     requires accepted { IsAccepted kind.now image.now }
     ensures { IsTrue result ↔ NamesHeap pages.now kind.now image.now part named }
@@ -224,12 +230,7 @@ fn holds_named(bytes: u32, pages: &[CorePage], actor: u32, base: u64, named: Opt
 }
 
 // Whether the image of a body is seen through by an actor.
-fn sees_bases(
-    bytes: u32,
-    pages: &[CorePage],
-    actor: u32,
-    rows: &CorePage,
-) -> bool
+fn sees_bases(bytes: u32, pages: &[CorePage], actor: u32, rows: &CorePage) -> bool
     requires page { IsPage bytes }
     requires whole { IsWhole bytes rows.now }
     requires rows { IsRows rows.now.kind }

@@ -7,17 +7,34 @@ use row_image::ImageKind;
 #[derive(Drop)]
 pub enum Event {
     /// The hand goes on.
-    Hand { actor: u32 },
+    Hand {
+        actor: u32,
+    },
     /// An actor takes a turn out.
-    Take { actor: u32, frame: u32 },
+    Take {
+        actor: u32,
+        frame: u32,
+    },
     /// It gives the turn back.
-    Give { actor: u32, frame: u32 },
+    Give {
+        actor: u32,
+        frame: u32,
+    },
     /// It claims a page for reading.
-    Read { actor: u32, page: u64 },
+    Read {
+        actor: u32,
+        page: u64,
+    },
     /// It gives a reader's claim back.
-    Leave { actor: u32, page: u64 },
+    Leave {
+        actor: u32,
+        page: u64,
+    },
     /// It becomes a page's writer.
-    Claim { actor: u32, page: u64 },
+    Claim {
+        actor: u32,
+        page: u64,
+    },
     /// A writer changes the page's body, and is its writer no more.
     Put {
         actor: u32,
@@ -33,7 +50,10 @@ pub enum Event {
         heaps: [Option<u64>; 4],
     },
     /// A reader of a row page and of its heap pages compares the bases.
-    Look { actor: u32, page: u64 },
+    Look {
+        actor: u32,
+        page: u64,
+    },
 }
 
 /// What a writer does to a page's body.

@@ -11,6 +11,8 @@ mod opening;
 mod readers;
 mod state;
 mod step;
+#[cfg(test)]
+mod tests;
 
 pub use core_state::{CoreState, CoreStop};
 pub use event::{Change, Event};

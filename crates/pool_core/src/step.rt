@@ -118,7 +118,14 @@ fn seal(
         state_of state.new ≡ with_turn (record (state_of state.old) { pages = state.old.pages.items ++ new_page kind image heaps f ∷ [] }) frame (owned t (length state.old.pages.items))))) }
     ensures unchanged { OnErr result (state_of state.new ≡ state_of state.old) }
 {
-    acts::seal(&mut state.turns, &mut state.pages, frame, kind, image, heaps)
+    acts::seal(
+        &mut state.turns,
+        &mut state.pages,
+        frame,
+        kind,
+        image,
+        heaps,
+    )
 }
 
 fn put(state: &mut Parts, actor: u32, page: u64, change: Change) -> Result<(), OutOfMemory>
