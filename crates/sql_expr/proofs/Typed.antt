@@ -15,7 +15,8 @@ use Rattle.sql_expr.specs.declared.tree.Expr.TheViews.{out-Link, roll-Expr, roll
 use Rattle.sql_expr.specs.declared.tree.Expr.TheVariants.{rolls-Constant, rolls-Column, rolls-Not, rolls-Minus, rolls-Every, rolls-Either, rolls-Chain, rolls-Compare, rolls-IsNull, rolls-Like, rolls-OneOf, rolls-Between}
 use Rattle.sql_expr.specs.declared.tree.Expr.TheVariants as variant
 use Rattle.sql_expr.specs.Kinds.{kind_of}
-use Rattle.sql_expr.specs.Typing.{IsTyped, IsTypedNode, AnyLink, IsLiteral, IsNumber, IsText, IsComparable, AreLinks}
+use Rattle.sql_expr.specs.Typing.{IsTyped, IsTypedNode, AnyLink, IsLiteral, IsNumber, IsText, IsComparable, AreLinks, IsLinked}
+use Rattle.sql_expr.proofs.Nodes.{numeric_is_number}
 use Rattle.sql_expr.proofs.Opened.{AllOf, AllLinks, Children}
 
 module _ (columns : List SqlType) where
@@ -97,3 +98,12 @@ module _ (columns : List SqlType) where
   typed_between of low high negated t l r h k =
       subst T (rolls-Between of low high negated)
       (made (Expr-F.Between of low high negated) (Expr-F.Between (of, t) (low, l) (high, r) negated) refl (h, k))
+
+  -- two operands under a sign
+  pub typed_pair : (first : Expr) (link : Link) (left right : SqlType) → T first → kind_of first ≡ left → T link.right → kind_of link.right ≡ right
+      → IsLinked link.sign left right link.kind → T (variant.Chain first (link ∷ []))
+  typed_pair first link left right t k u l linked =
+      let here : IsLinked link.sign (kind_of first) (kind_of link.right) link.kind =
+      subst (λ (x : SqlType). IsLinked link.sign x (kind_of link.right) link.kind) (sym k)
+      (subst (λ (x : SqlType). IsLinked link.sign left x link.kind) (sym l) linked) in
+      typed_chain first (link ∷ []) t (u, tt) (numeric_is_number (kind_of first) here.left_number) (here, tt)

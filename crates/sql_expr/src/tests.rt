@@ -107,12 +107,12 @@ fn chain(
     Ok(Expr::Chain { first, links })
 }
 
-// The line of the expression's value where the column is `x`.
-fn shown(alloc: Global, expr: &Expr, x: i32) -> Result<Vec<u8>, Fail>
+// The line of the expression's value where the column is 1.
+fn shown(alloc: Global, expr: &Expr) -> Result<Vec<u8>, Fail>
     requires { IsTyped (SqlType.Integer ∷ []) expr.now }
 {
     let row = [Value::Number {
-        digits: i128::from(x),
+        digits: 1,
         scale: 0,
     }];
     let value = eval(expr, row.as_slice())?;
@@ -140,7 +140,7 @@ fn values_of_expressions(rt: HostRuntime) -> Result<(), Fail> {
         SqlType::Integer,
         SqlType::Integer,
     )?;
-    assert_eq!(rt; shown(alloc, &quotient, 1)?.as_slice(), b"-3\n".as_slice());
+    assert_eq!(rt; shown(alloc, &quotient)?.as_slice(), b"-3\n".as_slice());
     let seven = opposite(alloc, literal(7, 0, SqlType::Integer), SqlType::Integer)?;
     let remainder = chain(
         alloc,
@@ -151,7 +151,7 @@ fn values_of_expressions(rt: HostRuntime) -> Result<(), Fail> {
         SqlType::Integer,
         SqlType::Integer,
     )?;
-    assert_eq!(rt; shown(alloc, &remainder, 1)?.as_slice(), b"-1\n".as_slice());
+    assert_eq!(rt; shown(alloc, &remainder)?.as_slice(), b"-1\n".as_slice());
     let by_zero = chain(
         alloc,
         column(),
@@ -161,7 +161,7 @@ fn values_of_expressions(rt: HostRuntime) -> Result<(), Fail> {
         SqlType::Integer,
         SqlType::Integer,
     )?;
-    assert_eq!(rt; shown(alloc, &by_zero, 1)?.as_slice(), b"NULL\n".as_slice());
+    assert_eq!(rt; shown(alloc, &by_zero)?.as_slice(), b"NULL\n".as_slice());
     let left_of_zero = chain(
         alloc,
         column(),
@@ -172,7 +172,7 @@ fn values_of_expressions(rt: HostRuntime) -> Result<(), Fail> {
         SqlType::Integer,
     )?;
     assert_eq!(rt;
-        shown(alloc, &left_of_zero, 1)?.as_slice(),
+        shown(alloc, &left_of_zero)?.as_slice(),
         b"NULL\n".as_slice()
     );
     let product = chain(
@@ -184,9 +184,6 @@ fn values_of_expressions(rt: HostRuntime) -> Result<(), Fail> {
         SqlType::Decimal { width: 2, scale: 1 },
         SqlType::Decimal { width: 5, scale: 3 },
     )?;
-    assert_eq!(rt;
-        shown(alloc, &product, 1)?.as_slice(),
-        b"2.750\n".as_slice()
-    );
+    assert_eq!(rt; shown(alloc, &product)?.as_slice(), b"2.750\n".as_slice());
     Ok(())
 }

@@ -1,5 +1,6 @@
 use Rattle.std.proofs.Common.{◌≡◌, ◌+◌, ◌≤◌, ap, sym, ◌∙◌, rules, subst, List, map, drop, inl, inr, arith}
 use Rattle.std.specs.Prelude.{Ok}
+use Rattle.ooc_types.specs.declared.truth.Truth.{Truth as Ternary}
 use Rattle.sql_expr.specs.declared.tree.Expr.{Expr, size-Expr}
 use denote.Param.Weighed.{most, at_most}
 use Rattle.sql_expr.specs.declared.tree.CompareSign.TheVariants.{Equal}
@@ -156,6 +157,7 @@ one_of-returns-in-Yes t c =
     ∙ either_next c.loop-constant.found c.in-Ok.truth c.one-found.result (equal (value_of c.args.row.now c.constant-item.result)) rest
     c.loop-constant.invariant.going c.in-Ok.ensures c.one-found.ensures
     ∙ either_stops c.one-found.result rest c.in-Yes.is
+    ∙ ap (λ (t : Ternary). Ok (truth_value t)) (sym c.in-Yes.is)
 
 pub one_of-loop-constant-preserved : goal.one_of-loop-constant-preserved
 one_of-loop-constant-preserved t c =
