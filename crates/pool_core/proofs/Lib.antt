@@ -15,3 +15,4 @@ pub mod FramesInUse
 pub mod Reading
 pub mod Shape
 pub mod TextsStand
+pub mod Lawful

@@ -17,7 +17,7 @@ use Rattle.pool_core.specs.declared.state.Mark.{Mark}
 use Rattle.pool_core.specs.declared.event.Event.{Event}
 use Rattle.pool_core.specs.State.{State, OnPage, IsHeap, content_of}
 use Rattle.pool_core.specs.Run.{Steps}
-use Rattle.pool_core.specs.Sound.{HasFrame}
+use Rattle.pool_core.specs.Sound.{HasFrame, MarksHold}
 
 -- two pages never have one frame
 abbrev pub FramesApart : List CorePage → Type 0
@@ -73,3 +73,12 @@ abbrev pub TextsStand : State → Type 0
 TextsStand s = (mark : Mark) (p : CorePage) (kinds : List CellKind) (row column : ℕ) (prefix : List ℕ) (size address : ℕ) → Contains s.marks mark → slice_get s.pages mark.page ≡ Some p → p.kind ≡ Rows kinds
     → row < row_count (image_of p.body) → column < length kinds → stored_cell kinds (image_of p.body) row column ≡ LongCell prefix size address
     → LeadsToText s.page s.pages p kinds row column size address
+
+-- what every state of a run keeps
+pub record IsLawful (s : State) : Type 0 where
+  pub apart : FramesApart s.pages
+  pub few : length (frames_in_use s.pages) ≤ length s.turns
+  pub alone : WritersAlone s.pages
+  pub stand : BodiesStand s.pages
+  pub looked : MarksHold s.page s.pages s.marks
+  pub texts : TextsStand s

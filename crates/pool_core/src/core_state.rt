@@ -5,6 +5,7 @@ ghost use Rattle.pool_core.specs.Enabled.{Enabled};
 ghost use Rattle.pool_core.specs.Effects.{Acts};
 ghost use Rattle.pool_core.specs.Run.{Opened, Ran, Stops};
 ghost use Rattle.pool_core.specs.Sound.{Sound};
+ghost use Rattle.pool_core.specs.Laws.{IsLawful, KeepsRead};
 
 use crate::event::Event;
 use crate::state::Parts;
@@ -56,6 +57,14 @@ impl CoreState {
         Ok(CoreState { parts })
     }
 
+    /// What holds of every core.
+    pub fn is_sound(&self)
+        ensures sound { Sound self.now }
+        ensures lawful { IsLawful self.now }
+    {
+        let _ = &self.parts;
+    }
+
     /// Whether an event is enabled.
     pub fn enabled(&self, event: &Event) -> bool
         ensures { IsTrue result ↔ Enabled self.now event.now }
@@ -69,6 +78,8 @@ impl CoreState {
         ensures acts { OnOk result (Acts self.old event self.new) }
         ensures unchanged { OnErr result (self.new ≡ self.old) }
         ensures sound { Sound self.new }
+        ensures lawful { IsLawful self.new }
+        ensures read { OnOk result (KeepsRead self.old.pages self.new.pages) }
     {
         step::step(&mut self.parts, event)
     }
@@ -77,7 +88,10 @@ impl CoreState {
     pub fn run(&mut self, events: Vec<Event>) -> Result<(), CoreStop>
         ensures ran { OnOk result (Ran self.old events.items self.new) }
         ensures stopped { IfErr result (λ stop. Stops self.old events.items stop self.new) }
+        ensures sound { Sound self.new }
+        ensures lawful { IsLawful self.new }
     {
+        let _ = &self.parts;
         let mut done: u64 = 0;
         for event in events {
             if !self.enabled(&event) {

@@ -1,6 +1,7 @@
 use Rattle.std.proofs.Common.{◌≡◌, ◌+◌, [], ◌∷◌, ◌++◌, ap, sym, ◌∙◌, append_assoc}
 use Rattle.std.proofs.lemmas.List.{length_push}
 use Rattle.std.proofs.lemmas.Bool.{iff_false}
+use Rattle.pool_core.proofs.Lawful.{lawful}
 use Rattle.pool_core.proofs.Runs.{ran_more, stopped_at, short_of_memory}
 use Rattle.pool_core.proofs.core_state.CoreState.run.Goals as goal
 
@@ -21,6 +22,12 @@ loop-event-preserved c =
       finite = tt;
       count = ap (λ n. n + 1) c.loop-event.invariant.count ∙ sym (length_push ys event);
       whole = append_assoc ys (event ∷ []) c.next.new.self.rest.items ∙ ap (λ xs. ys ++ xs) (sym steps.0) ∙ c.loop-event.invariant.whole;
+      sound = c.in-Ok.ensures.sound;
       ran = ran_more c.args.self.now c.loop-event.self c.step.new.self ys event c.loop-event.invariant.ran
           (record { enabled = c.enabled.ensures.0 c.if-not-enabled.false; acts = c.in-Ok.ensures.acts });
     }
+pub returns-then-not-enabled-clause-lawful : goal.returns-then-not-enabled-clause-lawful
+returns-then-not-enabled-clause-lawful c = lawful c.loop-event.self c.loop-event.invariant.sound
+
+pub returns-clause-lawful : goal.returns-clause-lawful
+returns-clause-lawful c = lawful c.loop-event.self c.loop-event.invariant.sound
