@@ -34,7 +34,7 @@ last an_argument = expr_last
 last a_select = select_last
 
 pub last_is : (s : Sort) → within (goes_on last (body s)) (last s) ≡ true
-unfolding e.literal e.column_name e.named e.group e.atom e.unary e.term_sign e.term_link e.term e.sum_sign e.sum_link e.sum e.compare_sign e.comparison e.null_test e.like e.one_of e.between e.constant e.range_test e.test e.pred e.neg e.and_operand e.conj e.or_operand e.expr e.argument q.alias q.value_item q.item q.condition q.subquery_source q.source q.join_word q.join q.sources q.direction q.key_column q.key q.filter q.grouping q.having q.ordering q.limit q.offset q.select
+unfolding e.literal e.column_name e.named e.group e.atom e.unary e.term_sign e.term_link e.term e.sum_sign e.sum_link e.sum e.compare_sign e.comparison e.null_test e.like e.one_of e.between e.constant e.range_test e.after_sum e.pred e.neg e.and_operand e.conj e.or_operand e.expr e.argument q.alias q.value_item q.item q.condition q.subquery_source q.source q.join_word q.join q.sources q.direction q.key_column q.key q.filter q.grouping q.having q.ordering q.limit q.offset q.select
 last_is an_expr = refl
 last_is a_neg = refl
 last_is a_unary = refl
@@ -42,7 +42,7 @@ last_is an_argument = refl
 last_is a_select = refl
 
 pub body_alive : (s : Sort) → alive (body s) ≡ true
-unfolding e.literal e.column_name e.named e.group e.atom e.unary e.term_sign e.term_link e.term e.sum_sign e.sum_link e.sum e.compare_sign e.comparison e.null_test e.like e.one_of e.between e.constant e.range_test e.test e.pred e.neg e.and_operand e.conj e.or_operand e.expr e.argument q.alias q.value_item q.item q.condition q.subquery_source q.source q.join_word q.join q.sources q.direction q.key_column q.key q.filter q.grouping q.having q.ordering q.limit q.offset q.select
+unfolding e.literal e.column_name e.named e.group e.atom e.unary e.term_sign e.term_link e.term e.sum_sign e.sum_link e.sum e.compare_sign e.comparison e.null_test e.like e.one_of e.between e.constant e.range_test e.after_sum e.pred e.neg e.and_operand e.conj e.or_operand e.expr e.argument q.alias q.value_item q.item q.condition q.subquery_source q.source q.join_word q.join q.sources q.direction q.key_column q.key q.filter q.grouping q.having q.ordering q.limit q.offset q.select
 body_alive an_expr = refl
 body_alive a_neg = refl
 body_alive a_unary = refl
@@ -50,7 +50,7 @@ body_alive an_argument = refl
 body_alive a_select = refl
 
 pub body_sound : (s : Sort) → is_sound last (body s) ≡ true
-unfolding e.literal e.column_name e.named e.group e.atom e.unary e.term_sign e.term_link e.term e.sum_sign e.sum_link e.sum e.compare_sign e.comparison e.null_test e.like e.one_of e.between e.constant e.range_test e.test e.pred e.neg e.and_operand e.conj e.or_operand e.expr e.argument q.alias q.value_item q.item q.condition q.subquery_source q.source q.join_word q.join q.sources q.direction q.key_column q.key q.filter q.grouping q.having q.ordering q.limit q.offset q.select
+unfolding e.literal e.column_name e.named e.group e.atom e.unary e.term_sign e.term_link e.term e.sum_sign e.sum_link e.sum e.compare_sign e.comparison e.null_test e.like e.one_of e.between e.constant e.range_test e.after_sum e.pred e.neg e.and_operand e.conj e.or_operand e.expr e.argument q.alias q.value_item q.item q.condition q.subquery_source q.source q.join_word q.join q.sources q.direction q.key_column q.key q.filter q.grouping q.having q.ordering q.limit q.offset q.select
 body_sound an_expr = refl
 body_sound a_neg = refl
 body_sound a_unary = refl
@@ -58,9 +58,9 @@ body_sound an_argument = refl
 body_sound a_select = refl
 
 pub script_sound : is_sound last t.script ≡ true
-unfolding e.literal e.column_name e.named e.group e.atom e.unary e.term_sign e.term_link e.term e.sum_sign e.sum_link e.sum e.compare_sign e.comparison e.null_test e.like e.one_of e.between e.constant e.range_test e.test e.pred e.neg e.and_operand e.conj e.or_operand e.expr e.argument q.alias q.value_item q.item q.condition q.subquery_source q.source q.join_word q.join q.sources q.direction q.key_column q.key q.filter q.grouping q.having q.ordering q.limit q.offset q.select t.sizes t.type_name t.not_null t.column t.truth t.option t.options t.create t.drop t.copy t.statement t.script
+unfolding e.literal e.column_name e.named e.group e.atom e.unary e.term_sign e.term_link e.term e.sum_sign e.sum_link e.sum e.compare_sign e.comparison e.null_test e.like e.one_of e.between e.constant e.range_test e.after_sum e.pred e.neg e.and_operand e.conj e.or_operand e.expr e.argument q.alias q.value_item q.item q.condition q.subquery_source q.source q.join_word q.join q.sources q.direction q.key_column q.key q.filter q.grouping q.having q.ordering q.limit q.offset q.select t.sizes t.type_name t.not_null t.column t.truth t.option t.options t.create t.drop t.copy t.statement t.script
 script_sound = refl
 
 pub script_alive : alive t.script ≡ true
-unfolding e.literal e.column_name e.named e.group e.atom e.unary e.term_sign e.term_link e.term e.sum_sign e.sum_link e.sum e.compare_sign e.comparison e.null_test e.like e.one_of e.between e.constant e.range_test e.test e.pred e.neg e.and_operand e.conj e.or_operand e.expr e.argument q.alias q.value_item q.item q.condition q.subquery_source q.source q.join_word q.join q.sources q.direction q.key_column q.key q.filter q.grouping q.having q.ordering q.limit q.offset q.select t.sizes t.type_name t.not_null t.column t.truth t.option t.options t.create t.drop t.copy t.statement t.script
+unfolding e.literal e.column_name e.named e.group e.atom e.unary e.term_sign e.term_link e.term e.sum_sign e.sum_link e.sum e.compare_sign e.comparison e.null_test e.like e.one_of e.between e.constant e.range_test e.after_sum e.pred e.neg e.and_operand e.conj e.or_operand e.expr e.argument q.alias q.value_item q.item q.condition q.subquery_source q.source q.join_word q.join q.sources q.direction q.key_column q.key q.filter q.grouping q.having q.ordering q.limit q.offset q.select t.sizes t.type_name t.not_null t.column t.truth t.option t.options t.create t.drop t.copy t.statement t.script
 script_alive = refl

@@ -53,19 +53,19 @@ module _ (n : Readers) where
   stops_at k = (x y z : Lexeme) (r : List Lexeme) → read n q.value_item (at_class k x ∷ at_class (sign_class s.Dot) y ∷ at_class (sign_class s.Star) z ∷ r) ≡ Err (Syntax, at_class (sign_class s.Star) z ∷ r)
 
   stops_0 : stops_at 60
-  unfolding stops_at e.literal e.column_name e.named e.group e.atom e.unary e.term_sign e.term_link e.term e.sum_sign e.sum_link e.sum e.compare_sign e.comparison e.null_test e.like e.one_of e.between e.constant e.range_test e.test e.pred e.neg e.and_operand e.conj e.or_operand e.expr q.alias q.value_item
+  unfolding stops_at e.literal e.column_name e.named e.group e.atom e.unary e.term_sign e.term_link e.term e.sum_sign e.sum_link e.sum e.compare_sign e.comparison e.null_test e.like e.one_of e.between e.constant e.range_test e.after_sum e.pred e.neg e.and_operand e.conj e.or_operand e.expr q.alias q.value_item
   stops_0 x y z r = refl
 
   stops_1 : stops_at 61
-  unfolding stops_at e.literal e.column_name e.named e.group e.atom e.unary e.term_sign e.term_link e.term e.sum_sign e.sum_link e.sum e.compare_sign e.comparison e.null_test e.like e.one_of e.between e.constant e.range_test e.test e.pred e.neg e.and_operand e.conj e.or_operand e.expr q.alias q.value_item
+  unfolding stops_at e.literal e.column_name e.named e.group e.atom e.unary e.term_sign e.term_link e.term e.sum_sign e.sum_link e.sum e.compare_sign e.comparison e.null_test e.like e.one_of e.between e.constant e.range_test e.after_sum e.pred e.neg e.and_operand e.conj e.or_operand e.expr q.alias q.value_item
   stops_1 x y z r = refl
 
   stops_2 : stops_at 62
-  unfolding stops_at e.literal e.column_name e.named e.group e.atom e.unary e.term_sign e.term_link e.term e.sum_sign e.sum_link e.sum e.compare_sign e.comparison e.null_test e.like e.one_of e.between e.constant e.range_test e.test e.pred e.neg e.and_operand e.conj e.or_operand e.expr q.alias q.value_item
+  unfolding stops_at e.literal e.column_name e.named e.group e.atom e.unary e.term_sign e.term_link e.term e.sum_sign e.sum_link e.sum e.compare_sign e.comparison e.null_test e.like e.one_of e.between e.constant e.range_test e.after_sum e.pred e.neg e.and_operand e.conj e.or_operand e.expr q.alias q.value_item
   stops_2 x y z r = refl
 
   stops_3 : stops_at 63
-  unfolding stops_at e.literal e.column_name e.named e.group e.atom e.unary e.term_sign e.term_link e.term e.sum_sign e.sum_link e.sum e.compare_sign e.comparison e.null_test e.like e.one_of e.between e.constant e.range_test e.test e.pred e.neg e.and_operand e.conj e.or_operand e.expr q.alias q.value_item
+  unfolding stops_at e.literal e.column_name e.named e.group e.atom e.unary e.term_sign e.term_link e.term e.sum_sign e.sum_link e.sum e.compare_sign e.comparison e.null_test e.like e.one_of e.between e.constant e.range_test e.after_sum e.pred e.neg e.and_operand e.conj e.or_operand e.expr q.alias q.value_item
   stops_3 x y z r = refl
 
   stops : (x y z : Lexeme) (r : List Lexeme) → is_among x.class names ≡ true → is_among y.class (sign_class s.Dot ∷ []) ≡ true → is_among z.class (sign_class s.Star ∷ []) ≡ true → read n q.value_item (x ∷ y ∷ z ∷ r) ≡ Err (Syntax, z ∷ r)
@@ -93,7 +93,7 @@ module _ (n : Readers) where
       by_class false false false false ha hb hc hd e = cc
 
   value_item_tame : IsTame n q.value_item
-  unfolding e.literal e.column_name e.named e.group e.atom e.unary e.term_sign e.term_link e.term e.sum_sign e.sum_link e.sum e.compare_sign e.comparison e.null_test e.like e.one_of e.between e.constant e.range_test e.test e.pred e.neg e.and_operand e.conj e.or_operand e.expr q.alias q.value_item
+  unfolding e.literal e.column_name e.named e.group e.atom e.unary e.term_sign e.term_link e.term e.sum_sign e.sum_link e.sum e.compare_sign e.comparison e.null_test e.like e.one_of e.between e.constant e.range_test e.after_sum e.pred e.neg e.and_operand e.conj e.or_operand e.expr q.alias q.value_item
   value_item_tame = plain n q.value_item refl
 
   item_tame : IsTame n q.item
@@ -101,31 +101,31 @@ module _ (n : Readers) where
   item_tame = (tt, (value_item_tame, stops))
 
   sources_tame : IsTame n q.sources
-  unfolding e.literal e.column_name e.named e.group e.atom e.unary e.term_sign e.term_link e.term e.sum_sign e.sum_link e.sum e.compare_sign e.comparison e.null_test e.like e.one_of e.between e.constant e.range_test e.test e.pred e.neg e.and_operand e.conj e.or_operand e.expr q.alias q.condition q.subquery_source q.source q.join_word q.join q.sources q.direction q.key_column q.key q.filter q.grouping q.having q.ordering q.limit q.offset
+  unfolding e.literal e.column_name e.named e.group e.atom e.unary e.term_sign e.term_link e.term e.sum_sign e.sum_link e.sum e.compare_sign e.comparison e.null_test e.like e.one_of e.between e.constant e.range_test e.after_sum e.pred e.neg e.and_operand e.conj e.or_operand e.expr q.alias q.condition q.subquery_source q.source q.join_word q.join q.sources q.direction q.key_column q.key q.filter q.grouping q.having q.ordering q.limit q.offset
   sources_tame = plain n q.sources refl
 
   filter_tame : IsTame n (q.filter)
-  unfolding e.literal e.column_name e.named e.group e.atom e.unary e.term_sign e.term_link e.term e.sum_sign e.sum_link e.sum e.compare_sign e.comparison e.null_test e.like e.one_of e.between e.constant e.range_test e.test e.pred e.neg e.and_operand e.conj e.or_operand e.expr q.alias q.condition q.subquery_source q.source q.join_word q.join q.sources q.direction q.key_column q.key q.filter q.grouping q.having q.ordering q.limit q.offset
+  unfolding e.literal e.column_name e.named e.group e.atom e.unary e.term_sign e.term_link e.term e.sum_sign e.sum_link e.sum e.compare_sign e.comparison e.null_test e.like e.one_of e.between e.constant e.range_test e.after_sum e.pred e.neg e.and_operand e.conj e.or_operand e.expr q.alias q.condition q.subquery_source q.source q.join_word q.join q.sources q.direction q.key_column q.key q.filter q.grouping q.having q.ordering q.limit q.offset
   filter_tame = plain n (q.filter) refl
 
   grouping_tame : IsTame n (q.grouping)
-  unfolding e.literal e.column_name e.named e.group e.atom e.unary e.term_sign e.term_link e.term e.sum_sign e.sum_link e.sum e.compare_sign e.comparison e.null_test e.like e.one_of e.between e.constant e.range_test e.test e.pred e.neg e.and_operand e.conj e.or_operand e.expr q.alias q.condition q.subquery_source q.source q.join_word q.join q.sources q.direction q.key_column q.key q.filter q.grouping q.having q.ordering q.limit q.offset
+  unfolding e.literal e.column_name e.named e.group e.atom e.unary e.term_sign e.term_link e.term e.sum_sign e.sum_link e.sum e.compare_sign e.comparison e.null_test e.like e.one_of e.between e.constant e.range_test e.after_sum e.pred e.neg e.and_operand e.conj e.or_operand e.expr q.alias q.condition q.subquery_source q.source q.join_word q.join q.sources q.direction q.key_column q.key q.filter q.grouping q.having q.ordering q.limit q.offset
   grouping_tame = plain n (q.grouping) refl
 
   having_tame : IsTame n (q.having)
-  unfolding e.literal e.column_name e.named e.group e.atom e.unary e.term_sign e.term_link e.term e.sum_sign e.sum_link e.sum e.compare_sign e.comparison e.null_test e.like e.one_of e.between e.constant e.range_test e.test e.pred e.neg e.and_operand e.conj e.or_operand e.expr q.alias q.condition q.subquery_source q.source q.join_word q.join q.sources q.direction q.key_column q.key q.filter q.grouping q.having q.ordering q.limit q.offset
+  unfolding e.literal e.column_name e.named e.group e.atom e.unary e.term_sign e.term_link e.term e.sum_sign e.sum_link e.sum e.compare_sign e.comparison e.null_test e.like e.one_of e.between e.constant e.range_test e.after_sum e.pred e.neg e.and_operand e.conj e.or_operand e.expr q.alias q.condition q.subquery_source q.source q.join_word q.join q.sources q.direction q.key_column q.key q.filter q.grouping q.having q.ordering q.limit q.offset
   having_tame = plain n (q.having) refl
 
   ordering_tame : IsTame n (q.ordering)
-  unfolding e.literal e.column_name e.named e.group e.atom e.unary e.term_sign e.term_link e.term e.sum_sign e.sum_link e.sum e.compare_sign e.comparison e.null_test e.like e.one_of e.between e.constant e.range_test e.test e.pred e.neg e.and_operand e.conj e.or_operand e.expr q.alias q.condition q.subquery_source q.source q.join_word q.join q.sources q.direction q.key_column q.key q.filter q.grouping q.having q.ordering q.limit q.offset
+  unfolding e.literal e.column_name e.named e.group e.atom e.unary e.term_sign e.term_link e.term e.sum_sign e.sum_link e.sum e.compare_sign e.comparison e.null_test e.like e.one_of e.between e.constant e.range_test e.after_sum e.pred e.neg e.and_operand e.conj e.or_operand e.expr q.alias q.condition q.subquery_source q.source q.join_word q.join q.sources q.direction q.key_column q.key q.filter q.grouping q.having q.ordering q.limit q.offset
   ordering_tame = plain n (q.ordering) refl
 
   limit_tame : IsTame n (q.limit)
-  unfolding e.literal e.column_name e.named e.group e.atom e.unary e.term_sign e.term_link e.term e.sum_sign e.sum_link e.sum e.compare_sign e.comparison e.null_test e.like e.one_of e.between e.constant e.range_test e.test e.pred e.neg e.and_operand e.conj e.or_operand e.expr q.alias q.condition q.subquery_source q.source q.join_word q.join q.sources q.direction q.key_column q.key q.filter q.grouping q.having q.ordering q.limit q.offset
+  unfolding e.literal e.column_name e.named e.group e.atom e.unary e.term_sign e.term_link e.term e.sum_sign e.sum_link e.sum e.compare_sign e.comparison e.null_test e.like e.one_of e.between e.constant e.range_test e.after_sum e.pred e.neg e.and_operand e.conj e.or_operand e.expr q.alias q.condition q.subquery_source q.source q.join_word q.join q.sources q.direction q.key_column q.key q.filter q.grouping q.having q.ordering q.limit q.offset
   limit_tame = plain n (q.limit) refl
 
   offset_tame : IsTame n (q.offset)
-  unfolding e.literal e.column_name e.named e.group e.atom e.unary e.term_sign e.term_link e.term e.sum_sign e.sum_link e.sum e.compare_sign e.comparison e.null_test e.like e.one_of e.between e.constant e.range_test e.test e.pred e.neg e.and_operand e.conj e.or_operand e.expr q.alias q.condition q.subquery_source q.source q.join_word q.join q.sources q.direction q.key_column q.key q.filter q.grouping q.having q.ordering q.limit q.offset
+  unfolding e.literal e.column_name e.named e.group e.atom e.unary e.term_sign e.term_link e.term e.sum_sign e.sum_link e.sum e.compare_sign e.comparison e.null_test e.like e.one_of e.between e.constant e.range_test e.after_sum e.pred e.neg e.and_operand e.conj e.or_operand e.expr q.alias q.condition q.subquery_source q.source q.join_word q.join q.sources q.direction q.key_column q.key q.filter q.grouping q.having q.ordering q.limit q.offset
   offset_tame = plain n (q.offset) refl
 
   select_tame : IsTame n q.select
@@ -136,7 +136,7 @@ module _ (n : Readers) where
   )
 
   pub body_tame : (s : Sort) → IsTame n (body s)
-  unfolding e.literal e.column_name e.named e.group e.atom e.unary e.term_sign e.term_link e.term e.sum_sign e.sum_link e.sum e.compare_sign e.comparison e.null_test e.like e.one_of e.between e.constant e.range_test e.test e.pred e.neg e.and_operand e.conj e.or_operand e.expr e.argument
+  unfolding e.literal e.column_name e.named e.group e.atom e.unary e.term_sign e.term_link e.term e.sum_sign e.sum_link e.sum e.compare_sign e.comparison e.null_test e.like e.one_of e.between e.constant e.range_test e.after_sum e.pred e.neg e.and_operand e.conj e.or_operand e.expr e.argument
   body_tame an_expr = plain n e.expr refl
   body_tame a_neg = plain n e.neg refl
   body_tame a_unary = plain n e.unary refl

@@ -140,12 +140,12 @@ between = (λ bounds negated left. e.Between bounds.0 negated left bounds.1 boun
 unfoldable pub range_test : Form (Expr → Expr)
 range_test = (λ negated test. test negated) <$> has (word w.Not) <*> (like or one_of or between)
 
-unfoldable pub test : Form (Expr → Expr)
-test = comparison or null_test or range_test or empty (λ left. left)
+unfoldable pub after_sum : Form (Expr → Expr)
+after_sum = comparison or null_test or range_test or empty (λ left. left)
 
 -- pred = sum [ compare sum | IS [ NOT ] NULL | [ NOT ] LIKE text | [ NOT ] IN "(" const { "," const } ")" | [ NOT ] BETWEEN sum AND sum ]
 unfoldable pub pred : Form Expr
-pred = (λ left test. test left) <$> sum <*> test
+pred = (λ left test. test left) <$> sum <*> after_sum
 
 -- neg = NOT neg | pred
 unfoldable pub neg : Form Expr

@@ -298,14 +298,14 @@ fn range_test(
 
 /// What may stand after a sum.
 #[cycle(expr)]
-#[tactic(auto, unfolding(crate::specs::Expressions::test))]
-fn test(
+#[tactic(auto, unfolding(crate::specs::Expressions::after_sum))]
+fn after_sum(
     alloc: Global,
     cursor: &mut Cursor<'_>,
     left: Boxed<Expr>,
     depth: u8,
 ) -> Result<Boxed<Expr>, Fault>
-    ensures gives { Gives (and_then (read (readers depth) form.test cursor.old) (λ test r. Ok (test left, r))) result cursor.new }
+    ensures gives { Gives (and_then (read (readers depth) form.after_sum cursor.old) (λ test r. Ok (test left, r))) result cursor.new }
     ensures shrinks { length cursor.new ≤ length cursor.old }
 {
     if at_comparison(cursor) {
@@ -326,7 +326,7 @@ fn pred(alloc: Global, cursor: &mut Cursor<'_>, depth: u8) -> Result<Boxed<Expr>
     ensures shrinks { length cursor.new ≤ length cursor.old }
 {
     let left = sum(alloc, cursor, depth)?;
-    test(alloc, cursor, left, depth)
+    after_sum(alloc, cursor, left, depth)
 }
 
 #[cycle(expr)]
