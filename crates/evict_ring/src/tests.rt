@@ -5,25 +5,21 @@ use std::test::Fail;
 
 #[test]
 fn what_is_written_to_a_frame_stays_in_it(rt: HostRuntime) -> Result<(), Fail> {
-    let alloc = rt.alloc();
-    let mut turn: Turn<u64> = Turn {
+    let mut frame = Frame {
+        number: 7,
+        bytes: vec![in rt.alloc(); 0, 0, 0, 0]?,
+    };
+    let bytes = frame.bytes_mut();
+    bytes[2] = 9;
+    let turn: Turn<u64> = Turn {
         frame: 7,
-        spare: Some(Frame {
-            number: 7,
-            bytes: vec![in alloc; 0; 8]?,
-        }),
+        spare: Some(frame),
         owner: None,
     };
-    if let Some(frame) = &mut turn.spare {
-        let bytes = frame.bytes_mut();
-        if bytes.len() == 8 {
-            bytes[3] = 9;
-        }
-    }
-    match turn.spare {
-        Some(frame) => {
-            assert_eq!(rt; frame.number, 7);
-            assert!(rt; frame.bytes.as_slice() == [0, 0, 0, 9, 0, 0, 0, 0].as_slice());
+    match &turn.spare {
+        Some(spare) => {
+            assert_eq!(rt; spare.number, turn.frame);
+            assert!(rt; spare.bytes.as_slice() == [0, 0, 9, 0].as_slice());
         }
         None => assert!(rt; false),
     }
