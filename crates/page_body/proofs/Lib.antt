@@ -5,3 +5,4 @@ pub mod SlotSteps
 pub mod LongTexts
 pub mod Kept
 pub mod ContentLength
+pub mod Causes

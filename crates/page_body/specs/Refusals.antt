@@ -25,3 +25,10 @@ abbrev pub ReadFails : Bool → ImageKind → ℕ → ℕ → ℕ → PoolFault 
 ReadFails told kind page_bytes before now Spill = Rose before now
 ReadFails told kind page_bytes before now (Damaged damage) = IsSpoilt told kind page_bytes damage
 ReadFails told kind page_bytes before now OutOfMemory = ⊤
+
+-- A call that is made of others was refused: the lane fails where its count of faults rose in the call, and in a told pool
+-- no image is refused.
+abbrev pub CallFails : Bool → ℕ → ℕ → PoolFault → Type 0
+CallFails told before now Spill = Rose before now
+CallFails told before now (Damaged damage) = IsTrue told → ⊥
+CallFails told before now OutOfMemory = ⊤

@@ -1,18 +1,21 @@
 //! Clients of a pool, proved from the trait alone: pages sealed, pinned, read and retired, and a long text followed from
 //! its row page to its heap page.
-ghost use Rattle.std.specs.Prelude.{◌≡◌, ◌≢◌, ℕ, ◌+◌, ◌<◌, ◌≤◌, ◌*◌, IsTrue, IfOk, IfSome, OnErr, OnOk, length, List};
+ghost use Rattle.std.specs.Prelude.{◌≡◌, ◌≢◌, ℕ, ◌+◌, ◌<◌, ◌≤◌, ◌*◌, IsTrue, IfOk, IfErr, IfSome, IsSome, OnErr, OnOk, ◌↔◌, length, List};
 ghost use Rattle.row_image.specs.Flat.{flat};
-ghost use Rattle.row_image.specs.Image.{part_count, part_at, no_heap};
+ghost use Rattle.row_image.specs.Image.{part_count, part_at, no_heap, stored_cell};
 ghost use Rattle.row_image.specs.declared.image.ImageKind.TheVariants.{Rows, Heap, Plain};
 ghost use Rattle.page_body.specs.Keeps.{Kept, Steady, LiveOn, ValidOn, PinnedOn};
 ghost use Rattle.page_body.specs.Shows.{IsNew};
+ghost use Rattle.page_body.specs.Refusals.{RoomFails, ReadFails, CallFails};
 ghost use Rattle.page_body.specs.Stands.{ImageStands};
+ghost use Rattle.row_image.specs.Rules.{IsAccepted};
+ghost use Rattle.row_image.specs.Parts.{is_long};
 ghost use Rattle.page_body.specs.Clients.{IsPlaced, PinsOwned, TwoPins, IsTextOf};
 
 use crate::base::base_of;
 use crate::fault::PoolFault;
 use crate::pages::Pages;
-use row_image::{Cell, ImageKind, Layout, check_image, part_count, part_of, read_cell};
+use row_image::{Cell, ImageKind, Layout, check_image, read_cell};
 
 /// Seals a page with the bytes of an image. It answers None where the image breaks a rule of its kind.
 pub fn seal_copy<P: Pages>(
@@ -26,6 +29,8 @@ pub fn seal_copy<P: Pages>(
     ensures new { IfOk result (λ sealed. IfSome sealed (IsNew P.terms (P.view pages.old) (P.view pages.new))) }
     ensures kind { IfOk result (λ sealed. IfSome sealed (λ page. P.terms.kind page ≡ kind)) }
     ensures content { IfOk result (λ sealed. IfSome sealed (λ page. P.terms.content page ≡ flat kind image.now)) }
+    ensures accepted { IsAccepted kind image.now → IfOk result IsSome }
+    ensures cause { IfErr result (RoomFails (P.view pages.old).faults (P.view pages.new).faults) }
     ensures kept { Kept (P.view pages.old) (P.view pages.new) }
 {
     let mut page = pages.open(kind)?;
@@ -49,6 +54,7 @@ pub fn read_back<P: Pages>(pages: &mut P, page: &P::Page, into: &mut [u8]) -> Re
     requires room { (P.view pages.old).held < (P.view pages.old).grant }
     requires long { length into.old ≡ (P.view pages.old).page_bytes }
     ensures stands { OnOk result (ImageStands P.terms.told (P.terms.kind page.now) (P.terms.content page.now) into.new) }
+    ensures cause { IfErr result (ReadFails P.terms.told (P.terms.kind page.now) (P.view pages.old).page_bytes (P.view pages.old).faults (P.view pages.new).faults) }
     ensures kept { Kept (P.view pages.old) (P.view pages.new) }
 {
     let pin = pages.pin(page)?;
@@ -68,6 +74,8 @@ pub fn two_pages<P: Pages>(
     requires first { length first.old ≡ (P.view pages.old).page_bytes }
     requires second { length second.now ≡ (P.view pages.old).page_bytes }
     ensures read { IsTrue P.terms.told → IfOk result (λ kept. IsTrue kept → first.new ≡ first.old) }
+    ensures accepted { IsAccepted Heap first.old → IsAccepted Heap second.now → IfOk result IsTrue }
+    ensures cause { IfErr result (CallFails P.terms.told (P.view pages.old).faults (P.view pages.new).faults) }
     ensures kept { Kept (P.view pages.old) (P.view pages.new) }
 {
     let one = match seal_copy(pages, ImageKind::Heap, first)? {
@@ -119,6 +127,7 @@ pub fn pin_rows<P: Pages>(
     ensures own { IfOk result (λ pins. PinsOwned (P.view pages.new) pins.rows pins.heap) }
     ensures counted { OnOk result (TwoPins (P.terms.id rows.now) (P.terms.id heap.now) (P.view pages.old) (P.view pages.new)) }
     ensures refused { OnErr result (Kept (P.view pages.old) (P.view pages.new)) }
+    ensures cause { IfErr result (CallFails P.terms.told (P.view pages.old).faults (P.view pages.new).faults) }
     ensures steady { Steady (P.view pages.old) (P.view pages.new) }
     ensures lives { LiveOn (P.view pages.old) (P.view pages.new) }
     ensures others { ValidOn (P.view pages.old) (P.view pages.new) }
@@ -167,7 +176,8 @@ pub fn long_text<'a, P: Pages>(
     requires part { 0 < part_count (P.terms.image pins.now.rows) }
     requires row { row < (part_at (P.terms.image pins.now.rows) 0).rows }
     requires column { column < length layout.now }
-    ensures { IsTrue P.terms.told → IfSome result (λ text. IsTextOf P.terms layout.now (P.terms.under pins.now.rows) (P.terms.under pins.now.heap) row column text.now) }
+    ensures told { IsTrue P.terms.told → IfSome result (λ text. IsTextOf P.terms layout.now (P.terms.under pins.now.rows) (P.terms.under pins.now.heap) row column text.now) }
+    ensures long { IsSome result ↔ IsTrue (is_long (stored_cell layout.now (P.terms.image pins.now.rows) row column)) }
 {
     let image = pages.bytes(&pins.rows);
     match read_cell(layout, image, row, column) {
@@ -182,64 +192,4 @@ pub fn long_text<'a, P: Pages>(
         }
         _ => None,
     }
-}
-
-// Copies the long text of a cell, if it stands in the row page's first part and is as long as `into`.
-fn copy_pinned<P: Pages>(
-    pages: &P,
-    pins: &RowAndHeap<P::Pin>,
-    layout: &Layout,
-    row: u32,
-    column: u32,
-    into: &mut [u8],
-) -> bool
-    requires own { PinsOwned (P.view pages.now) pins.now.rows pins.now.heap }
-    requires kind { P.terms.kind (P.terms.under pins.now.rows) ≡ Rows layout.now }
-    requires heap_kind { P.terms.kind (P.terms.under pins.now.heap) ≡ Heap }
-    requires placed { IsPlaced P.terms (P.view pages.now).page_bytes pins.now.rows pins.now.heap }
-    requires column { column < length layout.now }
-    ensures { IsTrue P.terms.told → IsTrue result → IsTextOf P.terms layout.now (P.terms.under pins.now.rows) (P.terms.under pins.now.heap) row column into.new }
-{
-    let image = pages.bytes(&pins.rows);
-    if part_count(image) == 0 || row >= part_of(image, 0).rows {
-        return false;
-    }
-    match long_text(pages, pins, layout, row, column) {
-        Some(text) => {
-            if text.len() == into.len() {
-                into.copy_from_slice(text);
-                true
-            } else {
-                false
-            }
-        }
-        None => false,
-    }
-}
-
-/// Copies the long text of a cell from its heap page, which the caller says is that of the row page's first part. It
-/// answers false where the row isn't in that part, or the cell has no long text of this length.
-pub fn copy_text<P: Pages>(
-    pages: &mut P,
-    rows: &P::Page,
-    heap: &P::Page,
-    layout: &Layout,
-    row: u32,
-    column: u32,
-    into: &mut [u8],
-) -> Result<bool, PoolFault>
-    requires rows { (P.view pages.old).live rows.now }
-    requires heap { (P.view pages.old).live heap.now }
-    requires kind { P.terms.kind rows.now ≡ Rows layout.now }
-    requires heap_kind { P.terms.kind heap.now ≡ Heap }
-    requires alone { (P.view pages.old).pins (P.terms.id rows.now) ≡ 0 }
-    requires room { (P.view pages.old).held + 2 ≤ (P.view pages.old).grant }
-    requires column { column < length layout.now }
-    ensures text { IsTrue P.terms.told → IfOk result (λ found. IsTrue found → IsTextOf P.terms layout.now rows.now heap.now row column into.new) }
-    ensures kept { Kept (P.view pages.old) (P.view pages.new) }
-{
-    let pins = pin_rows(pages, rows, heap, layout)?;
-    let found = copy_pinned(pages, &pins, layout, row, column, into);
-    release(pages, pins);
-    Ok(found)
 }

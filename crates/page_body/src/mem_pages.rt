@@ -1,11 +1,10 @@
 //! A pool in memory, for what is written before there is another.
-ghost use Rattle.std.specs.Prelude.{◌≡◌, ◌≤◌};
+ghost use Rattle.std.specs.Prelude.{◌≡◌, ◌≤◌, IfOk, length};
 ghost use Rattle.std.specs.List.{sum_by};
 ghost use Rattle.row_image.specs.Bytes.{IsPage};
 ghost use Rattle.page_body.specs.Shows.{most_frames};
 ghost use Rattle.page_body.specs.PageSize.{IsPage-prop};
 ghost use Rattle.page_body.specs.Slots.{uses_of};
-ghost use Rattle.std.specs.Prelude.{IfOk, length};
 
 use crate::fault::PoolFault;
 use crate::mem_page::{MemPage, MemPin};

@@ -11,13 +11,12 @@ use row_image::{ImageKind, Layout};
 /// kind and content, and the bytes and the frame under a pin, never change, so contracts see them as functions of the
 /// page and of the pin alone. What calls change is the worker's view: which pages are live, and its pins and open pages.
 pub trait Pages {
-    ghost use Rattle.std.specs.Prelude.{◌≡◌, ◌≢◌, ℕ, ◌+◌, ◌<◌, ◌≤◌, IsTrue, IfOk, IfErr, OnErr, OnOk};
+    ghost use Rattle.std.specs.Prelude.{◌≡◌, ◌≢◌, ℕ, ◌+◌, ◌<◌, ◌≤◌, IsTrue, IfOk, IfErr, OnErr, OnOk, List};
     ghost use Rattle.row_image.specs.Bytes.{IsPage};
     ghost use Rattle.row_image.specs.Flat.{flat};
     ghost use Rattle.row_image.specs.Rules.{IsAccepted};
     ghost use Rattle.row_image.specs.declared.layout.CellKind.{CellKind};
     ghost use Rattle.row_image.specs.declared.image.ImageKind.TheVariants.{Rows, Heap, Plain};
-    ghost use Rattle.std.specs.Prelude.{List};
     ghost use Rattle.page_body.specs.View.{PoolTerms, PoolView};
     ghost use Rattle.page_body.specs.Keeps.{Steady, SameHeld, OnePin, OneOpen, LiveOn, OthersLiveOn, ValidOn, PinnedOn};
     ghost use Rattle.page_body.specs.Shows.{most_frames, IsOpen, Shows, IsNew, AreBases, IsBased};
@@ -26,7 +25,8 @@ pub trait Pages {
     /// A reference to a sealed page.
     type Page;
 
-    /// The right to read a page where it lies.
+    /// The right to read a page where it lies. Neither a page nor a pin can be let go by generic code: a page is retired
+    /// or kept, and a pin given back or kept.
     type Pin;
 
     /// What a page and a pin are.

@@ -1,16 +1,22 @@
 //! Clients over a pool in memory, and a page that goes to a lane and comes back.
-ghost use Rattle.std.specs.Prelude.{◌≡◌, ◌+◌, ◌≤◌, ◌∷◌, [], IfOk, length};
+ghost use Rattle.std.specs.Prelude.{◌≡◌, ◌+◌, ◌<◌, ◌≤◌, ◌∷◌, [], IsTrue, IfOk, IfErr, length};
 ghost use Rattle.row_image.specs.Bytes.{IsPage};
 ghost use Rattle.row_image.specs.Flat.{flat};
 ghost use Rattle.row_image.specs.Rules.{IsAccepted};
+ghost use Rattle.row_image.specs.declared.image.ImageKind.TheVariants.{Rows, Heap};
 ghost use Rattle.page_body.specs.Stands.{StandsFor};
+ghost use Rattle.page_body.specs.Keeps.{Kept};
+ghost use Rattle.page_body.specs.Refusals.{CallFails};
+ghost use Rattle.page_body.specs.Clients.{IsPlaced, PinsOwned, IsTextOf};
 ghost use Rattle.page_body.specs.MemView.{mem_view};
 
-use super::clients::{copy_text, read_back, seal_copy, two_pages};
+use super::clients::{RowAndHeap, long_text, pin_rows, read_back, release, seal_copy, two_pages};
 use super::*;
 use evict_ring::Frame;
 use ooc_io::{LaneFault, MemLane, Silent, SpillFailed, SpillLane, Ticket};
-use row_image::{CellKind, Damage, DamageField, ImageKind, Layout, check_image};
+use row_image::{
+    CellKind, Damage, DamageField, ImageKind, Layout, check_image, part_count, part_of,
+};
 use std::alloc::Global;
 use std::test::Fail;
 
@@ -53,6 +59,67 @@ fn one_text() -> Layout
     ensures { result ≡ CellKind.Text ∷ [] }
 {
     Layout::new_layout(&[CellKind::Text])
+}
+
+// Copies the long text of a cell, if it stands in the row page's first part and is as long as `into`.
+fn copy_pinned<P: Pages>(
+    pages: &P,
+    pins: &RowAndHeap<P::Pin>,
+    layout: &Layout,
+    row: u32,
+    column: u32,
+    into: &mut [u8],
+) -> bool
+    requires own { PinsOwned (P.view pages.now) pins.now.rows pins.now.heap }
+    requires kind { P.terms.kind (P.terms.under pins.now.rows) ≡ Rows layout.now }
+    requires heap_kind { P.terms.kind (P.terms.under pins.now.heap) ≡ Heap }
+    requires placed { IsPlaced P.terms (P.view pages.now).page_bytes pins.now.rows pins.now.heap }
+    requires column { column < length layout.now }
+    ensures { IsTrue P.terms.told → IsTrue result → IsTextOf P.terms layout.now (P.terms.under pins.now.rows) (P.terms.under pins.now.heap) row column into.new }
+{
+    let image = pages.bytes(&pins.rows);
+    if part_count(image) == 0 || row >= part_of(image, 0).rows {
+        return false;
+    }
+    match long_text(pages, pins, layout, row, column) {
+        Some(text) => {
+            if text.len() == into.len() {
+                into.copy_from_slice(text);
+                true
+            } else {
+                false
+            }
+        }
+        None => false,
+    }
+}
+
+// Copies the long text of a cell from its heap page, which the caller says is that of the row page's first part. It
+// answers false where the row isn't in that part, or the cell has no long text of this length.
+fn copy_text<P: Pages>(
+    pages: &mut P,
+    rows: &P::Page,
+    heap: &P::Page,
+    layout: &Layout,
+    row: u32,
+    column: u32,
+    into: &mut [u8],
+) -> Result<bool, PoolFault>
+    requires rows { (P.view pages.old).live rows.now }
+    requires heap { (P.view pages.old).live heap.now }
+    requires kind { P.terms.kind rows.now ≡ Rows layout.now }
+    requires heap_kind { P.terms.kind heap.now ≡ Heap }
+    requires alone { (P.view pages.old).pins (P.terms.id rows.now) ≡ 0 }
+    requires room { (P.view pages.old).held + 2 ≤ (P.view pages.old).grant }
+    requires column { column < length layout.now }
+    ensures text { IsTrue P.terms.told → IfOk result (λ found. IsTrue found → IsTextOf P.terms layout.now rows.now heap.now row column into.new) }
+    ensures cause { IfErr result (CallFails P.terms.told (P.view pages.old).faults (P.view pages.new).faults) }
+    ensures kept { Kept (P.view pages.old) (P.view pages.new) }
+{
+    let pins = pin_rows(pages, rows, heap, layout)?;
+    let found = copy_pinned(pages, &pins, layout, row, column, into);
+    release(pages, pins);
+    Ok(found)
 }
 
 fn small_pool(alloc: Global) -> MemPages

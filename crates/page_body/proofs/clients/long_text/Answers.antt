@@ -76,8 +76,8 @@ slice_bounds-result-end g c =
     let read : length c.bytes.result.now ≡ length (t.image pins.heap) = ap length c.bytes.ensures in
     omega (arith, base, low, high, long, heap_long, read)
 
-pub returns-in-Long : goal.returns-in-Long
-returns-in-Long g c =
+pub returns-in-Long-clause-told : goal.returns-in-Long-clause-told
+returns-in-Long-clause-told g c =
     let t = g.P.Pages.terms in
     let pins = c.args.pins.now in
     let kinds = c.args.layout.now in

@@ -2,7 +2,7 @@ use Rattle.std.proofs.Common.{◌≤◌, sym, subst}
 use Rattle.row_image.specs.Image.{part_count}
 use Rattle.row_image.specs.Rules.{IsAccepted}
 use Rattle.row_image.proofs.Laws.{accepted_parts}
-use Rattle.page_body.proofs.clients.copy_pinned.Goals as goal
+use Rattle.page_body.proofs.tests.copy_pinned.Goals as goal
 
 pub part_of-requires-clause-few : goal.part_of-requires-clause-few
 part_of-requires-clause-few g c =
