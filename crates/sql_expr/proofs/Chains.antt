@@ -1,5 +1,5 @@
 -- Chains of operations.
-use Rattle.std.proofs.Common.{◌≡◌, ℕ, ◌<◌, ◌≤◌, ◌-◌, List, [], ◌∷◌, map, refl, sym, ap, ◌∙◌, length, get_or, arith}
+use Rattle.std.proofs.Common.{◌≡◌, ◌≤◌, ◌-◌, List, [], ◌∷◌, map, sym, ap, length, get_or, arith}
 use Rattle.std.proofs.lemmas.Grind.{common_steps}
 use Rattle.ooc_types.specs.declared.schema.SqlType.{SqlType}
 use Rattle.sql_expr.specs.declared.tree.Link.{Link}

@@ -1,19 +1,17 @@
 -- Arithmetic that tells a number or a fault.
-use Rattle.std.proofs.Common.{◌≡◌, ◌≢◌, ℕ, zero, suc, ◌<◌, ◌^◌, refl, sym, ap, ◌∙◌, arith, Bool, true, false, cond}
-use Rattle.std.specs.Prelude.{ℤ, pos, negsuc, Option, Some, None, Result, Ok, Err}
+use Rattle.std.proofs.Common.{◌≡◌, ◌≢◌, zero, suc, ◌^◌, refl, sym, ap, arith, Bool, true, false, cond}
+use Rattle.std.specs.Prelude.{ℤ, pos, negsuc, Option, Some, None, Ok, Err}
 use Rattle.std.specs.Bool.{Decides}
 use Rattle.std.proofs.lemmas.Int.{ints}
-use Rattle.std.proofs.lemmas.Bool.Decides.{Decides-ltb, nat_tests}
+use Rattle.std.proofs.lemmas.Bool.Decides.{Decides-ltb}
 use Rattle.ooc_types.specs.declared.schema.SqlType.{SqlType}
 use Rattle.ooc_types.specs.declared.schema.SqlType.TheVariants.{Boolean, Integer, BigInt, HugeInt, Decimal, Varchar}
-use Rattle.ooc_types.specs.declared.value.Value.{Value}
 use Rattle.ooc_types.specs.declared.value.Value.TheVariants.{Number}
-use Rattle.sql_expr.specs.declared.fault.ValueFault.{ValueFault}
 use Rattle.sql_expr.specs.declared.fault.ValueFault.TheVariants.{Overflow}
 use Rattle.ooc_types.specs.Meets.{IsInRange}
 use Rattle.ooc_decimal.specs.Exact.{IsExact}
 use Rattle.ooc_decimal.specs.Numeric.{scale_of}
-use Rattle.sql_expr.specs.Arithmetic.{is_in_range, is_signed, is_within, exact, unless_zero, Meaning}
+use Rattle.sql_expr.specs.Arithmetic.{is_in_range, exact, unless_zero, Meaning}
 use Rattle.sql_expr.specs.Outcomes.{number_meaning, told}
 
 pub in_range_decides : (kind : SqlType) (d : ℤ) → Decides (is_in_range kind d) (IsInRange kind d)

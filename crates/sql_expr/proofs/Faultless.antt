@@ -1,8 +1,7 @@
 -- Plain conditions have values.
 use Rattle.std.proofs.Common.{◌≡◌, ℕ, zero, suc, ◌<◌, ◌^◌, Bool, true, false, cond, ◌&&◌, nat_lt, List, [], ◌∷◌, map, refl, sym, ap, ◌∙◌, subst, arith, rules}
-use Rattle.std.specs.Prelude.{pos, negsuc, neg_ℤ, ℤ, Ok, Err, ⊤, IsTrue}
-use Rattle.std.specs.List.{AllByRecursion}
-use Rattle.std.proofs.lemmas.Bool.Decides.{Decides-ltb, nat_tests}
+use Rattle.std.specs.Prelude.{pos, negsuc, neg_ℤ, Ok, Err, ⊤, IsTrue}
+use Rattle.std.proofs.lemmas.Bool.Decides.{Decides-ltb}
 use Rattle.ooc_types.specs.declared.truth.Truth.{Truth as Ternary}
 use Rattle.ooc_types.specs.declared.truth.Truth.TheVariants.{Yes, No, Unknown}
 use Rattle.ooc_types.specs.declared.value.Value.{Value}
@@ -18,8 +17,8 @@ use Rattle.sql_expr.specs.declared.tree.Link.{Link}
 use Rattle.sql_expr.specs.declared.tree.Expr.TheOpen.{Expr-F, Link-F}
 use Rattle.sql_expr.specs.declared.tree.Expr.TheFolds.{fold_out-Expr, ind-Expr, map-Expr}
 use Rattle.sql_expr.specs.declared.tree.Expr.TheViews.{out-Expr, roll-Expr, out-roll-Expr}
-use Rattle.sql_expr.specs.Arithmetic.{Meaning, exact, opposite, is_in_range, is_signed, is_within}
-use Rattle.sql_expr.specs.Meaning.{value_of, then_value, comparison, every_from, either_from, and_behind, or_behind, and_also, one_of, between}
+use Rattle.sql_expr.specs.Arithmetic.{Meaning, opposite, is_in_range}
+use Rattle.sql_expr.specs.Meaning.{value_of, then_value, comparison, every_from, either_from, and_behind, or_behind, one_of, between}
 use Rattle.sql_expr.specs.Logic.{truth_in}
 use Rattle.sql_expr.specs.Plain.{Plainness, plainness, plain_step, link_plainness, link_plain_step, all_operands, all_conditions, IsFaultless}
 use Rattle.sql_expr.specs.Typing.{FitsRow, IsLiteral, IsNumberLiteral, integer_type}

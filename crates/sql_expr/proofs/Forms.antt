@@ -1,6 +1,6 @@
 -- What a column's and a literal's value is, by its type.
-use Rattle.std.proofs.Common.{◌≡◌, ℕ, refl, sym, ap, ◌∙◌}
-use Rattle.std.specs.Prelude.{ℤ, pos, negsuc, Some, None}
+use Rattle.std.proofs.Common.{◌≡◌, ℕ, refl, ap}
+use Rattle.std.specs.Prelude.{ℤ, pos, negsuc}
 use Rattle.ooc_types.specs.declared.value.Value.{Value}
 use Rattle.ooc_types.specs.declared.value.Value.TheVariants.{Null, Truth, Number, Text}
 use Rattle.ooc_types.specs.declared.schema.SqlType.{SqlType}

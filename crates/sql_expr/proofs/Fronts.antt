@@ -1,12 +1,12 @@
 -- What the search for a pattern in a text finds.
-use Rattle.std.proofs.Common.{◌≡◌, ℕ, ◌+◌, ◌<◌, ◌≤◌, Bool, true, false, cond, nat_eq, List, [], ◌∷◌, refl, sym, ap, ◌∙◌, subst, arith, length}
-use Rattle.std.specs.Prelude.{Option, Some, None}
+use Rattle.std.proofs.Common.{◌≡◌, ℕ, true, false, cond, nat_eq, List, [], ◌∷◌, refl, sym, ap, ◌∙◌, subst, arith, length}
+use Rattle.std.specs.Prelude.{Some, None}
 use Rattle.std.proofs.lemmas.Bool.Decides.{Decides-eqb, nat_tests}
 use Rattle.sql_expr.specs.Characters.{characters}
 use Rattle.sql_expr.specs.Like.{is_percent, is_like, holds_behind_some, is_empty_text}
 use Rattle.sql_expr.specs.Segments.{Characters, left_over, like_behind}
-use Rattle.sql_expr.proofs.Taken.{characters_empty, characters_nil}
-use Rattle.sql_expr.proofs.Greedy.{found_first, found_none, found_end, some_at_end, some_now, some_later}
+use Rattle.sql_expr.proofs.Taken.{characters_empty}
+use Rattle.sql_expr.proofs.Greedy.{found_first, found_end, some_at_end, some_later}
 
 pub none_left : (bytes : List ℕ) → true ≡ nat_eq (length bytes) 0 → characters bytes ≡ []
 none_left bytes h = characters_empty bytes ((Decides-eqb (length bytes) 0).0 (sym h))

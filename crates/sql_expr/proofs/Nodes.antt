@@ -9,13 +9,13 @@ use Rattle.ooc_types.specs.declared.schema.SqlType.TheVariants.{Boolean, Integer
 use Rattle.ooc_decimal.specs.Numeric.{IsNumeric}
 use Rattle.sql_expr.specs.declared.tree.Expr.{Expr}
 use Rattle.sql_expr.specs.declared.tree.Link.{Link}
-use Rattle.sql_expr.specs.declared.tree.Expr.TheOpen.{Expr-F, Link-F}
+use Rattle.sql_expr.specs.declared.tree.Expr.TheOpen.{Expr-F}
 use Rattle.sql_expr.specs.declared.tree.Expr.TheFolds.{fold_out-Expr, fold_out-Link, map-Expr}
 use Rattle.sql_expr.specs.declared.tree.Expr.TheViews.{out-Expr, roll-Expr, roll-out-Expr}
 use Rattle.sql_expr.specs.Arithmetic.{Meaning}
 use Rattle.sql_expr.specs.Meaning.{LinkMeaning, value_of, value_step, link_step, link_meaning, plain_link, chain_from}
 use Rattle.sql_expr.specs.Kinds.{kind_of, kind_step, link_kind, link_kind_step, last_kind}
-use Rattle.sql_expr.specs.Typing.{AreLinks, FitsRow, IsNumber, IsLinked, wider, decimal, sum_type, product_type, result_type}
+use Rattle.sql_expr.specs.Typing.{AreLinks, FitsRow, IsNumber, wider, sum_type, product_type, result_type}
 use Rattle.sql_expr.specs.Ready.{AreReady}
 use Rattle.sql_expr.proofs.Opened.{AllLinks}
 

@@ -1,5 +1,5 @@
 -- The values of expressions that are numbers, node by node.
-use Rattle.std.proofs.Common.{◌≡◌, ℕ, zero, suc, ◌<◌, arith, List, [], ◌∷◌, map, refl, sym, ap, ◌∙◌, subst, get_or, length}
+use Rattle.std.proofs.Common.{◌≡◌, ℕ, zero, suc, ◌<◌, arith, List, [], ◌∷◌, map, sym, ap, subst, get_or, length}
 use Rattle.std.specs.Prelude.{ℤ, Option, Result, Ok}
 use Rattle.ooc_types.specs.declared.value.Value.{Value}
 use Rattle.ooc_types.specs.declared.value.Value.TheVariants.{Null}
@@ -8,14 +8,14 @@ use Rattle.ooc_decimal.specs.Numeric.{IsNumeric, scale_of}
 use Rattle.sql_expr.specs.declared.fault.ValueFault.{ValueFault}
 use Rattle.sql_expr.specs.declared.tree.Expr.{Expr}
 use Rattle.sql_expr.specs.declared.tree.Link.{Link}
-use Rattle.sql_expr.specs.declared.tree.Expr.TheOpen.{Expr-F, Link-F}
+use Rattle.sql_expr.specs.declared.tree.Expr.TheOpen.{Expr-F}
 use Rattle.sql_expr.specs.declared.tree.Expr.TheViews.{out-Expr}
 use Rattle.sql_expr.specs.Meaning.{value_of, chain_from, plain_link}
 use Rattle.sql_expr.specs.Kinds.{kind_of, last_kind}
 use Rattle.sql_expr.specs.Outcomes.{number_value, number_meaning, digits_of}
 use Rattle.sql_expr.specs.Typing.{FitsRow, IsNumber}
 use Rattle.sql_expr.specs.Ready.{AreReady}
-use Rattle.sql_expr.proofs.Opened.{opened, meets_at, InColumn}
+use Rattle.sql_expr.proofs.Opened.{opened, meets_at}
 use Rattle.sql_expr.proofs.Nodes.{value_out, kind_out, chain_value, chain_kind, numeric_is_number, ready}
 use Rattle.sql_expr.proofs.Forms.{number_form, number_literal}
 

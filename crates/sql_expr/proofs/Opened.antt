@@ -1,14 +1,14 @@
 -- What an expression that fits a row says of its outermost node.
-use Rattle.std.proofs.Common.{◌≡◌, ℕ, zero, suc, ◌<◌, List, [], ◌∷◌, map, refl, sym, subst, ap, ◌∙◌, length, slice_index_or, arith}
-use Rattle.std.specs.Prelude.{⊤, slice_get, Some, None}
+use Rattle.std.proofs.Common.{◌≡◌, ℕ, zero, suc, ◌<◌, List, [], ◌∷◌, map, refl, subst, ap, ◌∙◌, length, slice_index_or, arith}
+use Rattle.std.specs.Prelude.{⊤, slice_get, Some}
 use Rattle.ooc_types.specs.declared.value.Value.{Value}
 use Rattle.ooc_types.specs.declared.value.Value.TheVariants.{Null}
 use Rattle.ooc_types.specs.declared.schema.SqlType.{SqlType}
 use Rattle.ooc_types.specs.Meets.{Meets, HasForm}
 use Rattle.sql_expr.specs.declared.tree.Expr.{Expr}
 use Rattle.sql_expr.specs.declared.tree.Link.{Link}
-use Rattle.sql_expr.specs.declared.tree.Expr.TheOpen.{Expr-F, Link-F}
-use Rattle.sql_expr.specs.declared.tree.Expr.TheFolds.{every-Expr, every-Link, every_here-Expr, every_held-Expr, every_held-Link, map-Expr, map-Link}
+use Rattle.sql_expr.specs.declared.tree.Expr.TheOpen.{Expr-F}
+use Rattle.sql_expr.specs.declared.tree.Expr.TheFolds.{every-Link, every_here-Expr, every_held-Expr, every_held-Link, map-Expr}
 use Rattle.sql_expr.specs.declared.tree.Expr.TheViews.{out-Expr, out-Link}
 use Rattle.sql_expr.specs.Typing.{IsTyped, IsTypedNode, AnyLink, FitsRow}
 

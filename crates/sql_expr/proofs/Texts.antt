@@ -1,5 +1,5 @@
 -- The values of expressions that are texts, node by node.
-use Rattle.std.proofs.Common.{◌≡◌, ℕ, ◌<◌, List, map, refl, sym, ap, ◌∙◌, subst, get_or}
+use Rattle.std.proofs.Common.{◌≡◌, ℕ, List, refl, ap, ◌∙◌, subst, get_or}
 use Rattle.std.specs.Prelude.{ℤ, pos, negsuc, Option, Ok}
 use Rattle.ooc_types.specs.declared.value.Value.{Value}
 use Rattle.ooc_types.specs.declared.value.Value.TheVariants.{Null, Truth, Number, Text}
@@ -8,7 +8,7 @@ use Rattle.ooc_types.specs.declared.schema.SqlType.TheVariants.{Boolean, Integer
 use Rattle.ooc_types.specs.Meets.{HasForm, IsNumberOf}
 use Rattle.sql_expr.specs.declared.tree.Expr.{Expr}
 use Rattle.sql_expr.specs.declared.tree.Link.{Link}
-use Rattle.sql_expr.specs.declared.tree.Expr.TheOpen.{Expr-F, Link-F}
+use Rattle.sql_expr.specs.declared.tree.Expr.TheOpen.{Expr-F}
 use Rattle.sql_expr.specs.declared.tree.Expr.TheViews.{out-Expr}
 use Rattle.sql_expr.specs.declared.tree.Expr.TheVariants.{rolls-Constant, rolls-Column}
 use Rattle.sql_expr.specs.declared.tree.Expr.TheVariants as variant
@@ -16,7 +16,7 @@ use Rattle.sql_expr.specs.Meaning.{value_of}
 use Rattle.sql_expr.specs.Kinds.{kind_of}
 use Rattle.sql_expr.specs.Outcomes.{text_value, bytes_in}
 use Rattle.sql_expr.specs.Typing.{FitsRow, IsText, IsNumberLiteral, IsLiteral, family}
-use Rattle.sql_expr.proofs.Opened.{opened, meets_at, InColumn}
+use Rattle.sql_expr.proofs.Opened.{opened, meets_at}
 use Rattle.sql_expr.proofs.Nodes.{value_out, kind_out, chain_kind, numeric_is_number, chain_number, is_rolled}
 use Rattle.sql_expr.proofs.Numbers.{get_or_same}
 

@@ -1,27 +1,24 @@
 -- The values of expressions that are BOOLEAN, node by node.
-use Rattle.std.proofs.Common.{◌≡◌, ℕ, ◌<◌, Bool, true, false, List, [], ◌∷◌, map, refl, sym, ap, ◌∙◌, subst, get_or, cond}
+use Rattle.std.proofs.Common.{◌≡◌, ℕ, Bool, true, false, List, [], ◌∷◌, refl, sym, ap, ◌∙◌, subst, get_or}
 use Rattle.std.specs.Prelude.{pos, negsuc, Ok}
 use Rattle.std.specs.List.{AllByRecursion}
 use Rattle.ooc_types.specs.declared.truth.Truth.{Truth as Ternary}
-use Rattle.ooc_types.specs.declared.truth.Truth.TheVariants.{Yes, No, Unknown}
 use Rattle.ooc_types.specs.declared.value.Value.{Value}
 use Rattle.ooc_types.specs.declared.value.Value.TheVariants.{Null, Truth, Number, Text}
 use Rattle.ooc_types.specs.declared.schema.SqlType.{SqlType}
-use Rattle.ooc_types.specs.declared.schema.SqlType.TheVariants.{Boolean, Integer, BigInt, HugeInt, Decimal, Varchar}
+use Rattle.ooc_types.specs.declared.schema.SqlType.TheVariants.{Boolean}
 use Rattle.ooc_types.specs.Meets.{HasForm}
-use Rattle.sql_expr.specs.declared.fault.ValueFault.{ValueFault}
 use Rattle.sql_expr.specs.declared.tree.CompareSign.{CompareSign}
 use Rattle.sql_expr.specs.declared.tree.Expr.{Expr}
 use Rattle.sql_expr.specs.declared.tree.Link.{Link}
-use Rattle.sql_expr.specs.declared.tree.Expr.TheOpen.{Expr-F, Link-F}
+use Rattle.sql_expr.specs.declared.tree.Expr.TheOpen.{Expr-F}
 use Rattle.sql_expr.specs.declared.tree.Expr.TheViews.{out-Expr}
-use Rattle.sql_expr.specs.Arithmetic.{Meaning}
-use Rattle.sql_expr.specs.Logic.{truth_value, truth_in, and_truth, or_truth}
-use Rattle.sql_expr.specs.Meaning.{value_of, and_behind, or_behind, every_from, either_from}
+use Rattle.sql_expr.specs.Logic.{truth_value, truth_in}
+use Rattle.sql_expr.specs.Meaning.{value_of}
 use Rattle.sql_expr.specs.Kinds.{kind_of}
 use Rattle.sql_expr.specs.Ready.{AreConditions, AreComparable}
-use Rattle.sql_expr.specs.Typing.{FitsRow, IsLiteral, IsText, IsNumber, IsComparable, family}
-use Rattle.sql_expr.proofs.Opened.{opened, meets_at, InColumn, AllOf}
+use Rattle.sql_expr.specs.Typing.{FitsRow, IsLiteral, IsText, IsComparable, family}
+use Rattle.sql_expr.proofs.Opened.{opened, meets_at, AllOf}
 use Rattle.sql_expr.proofs.Nodes.{value_out, kind_out, chain_kind, chain_number, numeric_is_number}
 use Rattle.sql_expr.proofs.Numbers.{get_or_same}
 

@@ -1,5 +1,5 @@
 -- Expressions that are typed, node by node. Who builds a tree shows by these that it is typed.
-use Rattle.std.proofs.Common.{◌≡◌, ℕ, Bool, List, [], ◌∷◌, map, refl, sym, ap, ◌∙◌, subst}
+use Rattle.std.proofs.Common.{◌≡◌, ℕ, Bool, List, [], ◌∷◌, map, refl, sym, ap, subst}
 use Rattle.std.specs.Prelude.{Some, slice_get}
 use Rattle.std.specs.List.{AllByRecursion}
 use Rattle.ooc_types.specs.declared.value.Value.{Value}
@@ -9,15 +9,15 @@ use Rattle.ooc_decimal.specs.Numeric.{IsNumeric}
 use Rattle.sql_expr.specs.declared.tree.CompareSign.{CompareSign}
 use Rattle.sql_expr.specs.declared.tree.Expr.{Expr}
 use Rattle.sql_expr.specs.declared.tree.Link.{Link}
-use Rattle.sql_expr.specs.declared.tree.Expr.TheOpen.{Expr-F, Link-F}
-use Rattle.sql_expr.specs.declared.tree.Expr.TheFolds.{every-Expr, every-Link, every_made-Expr, every_made-Link, map-Expr}
-use Rattle.sql_expr.specs.declared.tree.Expr.TheViews.{out-Link, roll-Expr, roll-Link, roll-out-Link}
+use Rattle.sql_expr.specs.declared.tree.Expr.TheOpen.{Expr-F}
+use Rattle.sql_expr.specs.declared.tree.Expr.TheFolds.{every-Link, every_made-Expr, every_made-Link, map-Expr}
+use Rattle.sql_expr.specs.declared.tree.Expr.TheViews.{out-Link, roll-Expr, roll-out-Link}
 use Rattle.sql_expr.specs.declared.tree.Expr.TheVariants.{rolls-Constant, rolls-Column, rolls-Not, rolls-Minus, rolls-Every, rolls-Either, rolls-Chain, rolls-Compare, rolls-IsNull, rolls-Like, rolls-OneOf, rolls-Between}
 use Rattle.sql_expr.specs.declared.tree.Expr.TheVariants as variant
 use Rattle.sql_expr.specs.Kinds.{kind_of}
-use Rattle.sql_expr.specs.Typing.{IsTyped, IsTypedNode, AnyLink, IsLiteral, IsNumber, IsText, IsComparable, AreLinks, IsLinked}
+use Rattle.sql_expr.specs.Typing.{IsTyped, IsTypedNode, AnyLink, IsLiteral, IsNumber, IsComparable, AreLinks, IsLinked}
 use Rattle.sql_expr.proofs.Nodes.{numeric_is_number}
-use Rattle.sql_expr.proofs.Opened.{AllOf, AllLinks, Children}
+use Rattle.sql_expr.proofs.Opened.{AllOf, AllLinks}
 
 module _ (columns : List SqlType) where
   abbrev T : Expr → Type 0

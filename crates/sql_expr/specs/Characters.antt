@@ -1,5 +1,5 @@
 -- The characters of a text.
-use Rattle.std.specs.Prelude.{ℕ, zero, suc, ◌-◌, ◌≤◌, Bool, List, [], ◌∷◌, take, if◌then◌else◌, length, nat_le, ◌&&◌}
+use Rattle.std.specs.Prelude.{ℕ, zero, suc, ◌-◌, Bool, List, [], ◌∷◌, take, if◌then◌else◌, length, nat_le, ◌&&◌}
 use Rattle.std.specs.Str.{is_utf8}
 
 -- whether the first n bytes are there, and are UTF-8

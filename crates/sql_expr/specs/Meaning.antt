@@ -1,9 +1,9 @@
 -- The value of an expression over a row, or its fault.
-use Rattle.std.specs.Prelude.{ℕ, Bool, true, false, List, [], ◌∷◌, map, slice_index_or, Result, Ok, Err, if◌then◌else◌, not}
+use Rattle.std.specs.Prelude.{ℕ, Bool, true, false, List, [], ◌∷◌, map, slice_index_or, Ok, Err, if◌then◌else◌, not}
 use Rattle.ooc_types.specs.declared.truth.Truth.{Truth as Ternary}
 use Rattle.ooc_types.specs.declared.truth.Truth.TheVariants.{Yes, No, Unknown}
 use Rattle.ooc_types.specs.declared.value.Value.{Value}
-use Rattle.ooc_types.specs.declared.value.Value.TheVariants.{Null, Truth, Number, Text}
+use Rattle.ooc_types.specs.declared.value.Value.TheVariants.{Null, Truth, Text}
 use Rattle.ooc_types.specs.declared.schema.SqlType.{SqlType}
 use Rattle.sql_expr.specs.declared.tree.ChainSign.{ChainSign}
 use Rattle.sql_expr.specs.declared.tree.CompareSign.{CompareSign}
@@ -12,7 +12,7 @@ use Rattle.sql_expr.specs.declared.tree.Expr.{Expr}
 use Rattle.sql_expr.specs.declared.tree.Link.{Link}
 use Rattle.sql_expr.specs.declared.tree.Expr.TheOpen.{Expr-F, Link-F}
 use Rattle.sql_expr.specs.declared.tree.Expr.TheFolds.{fold-Expr, fold-Link}
-use Rattle.sql_expr.specs.Logic.{and_truth, or_truth, not_truth, truth_value, truth_in, negated_if}
+use Rattle.sql_expr.specs.Logic.{and_truth, or_truth, truth_value, truth_in, negated_if}
 use Rattle.sql_expr.specs.Comparison.{compared, is_null}
 use Rattle.sql_expr.specs.Characters.{characters}
 use Rattle.sql_expr.specs.Like.{is_like}

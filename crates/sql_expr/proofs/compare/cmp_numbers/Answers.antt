@@ -1,4 +1,4 @@
-use Rattle.std.proofs.Common.{◌≡◌, ◌^◌, ap, sym, ◌∙◌, subst, int_cmp, arith}
+use Rattle.std.proofs.Common.{◌≡◌, ◌^◌, ap, sym, ◌∙◌, int_cmp, arith}
 use Rattle.std.specs.Prelude.{pos, ◌*ℤ◌}
 use Rattle.std.proofs.lemmas.Int.{to_z-of_z}
 use Rattle.std.proofs.Math.Nat.{one-le-pow}

@@ -1,8 +1,5 @@
-use Rattle.std.proofs.Common.{◌≡◌, ap, sym, ◌∙◌, rules, get_or, subst}
-use Rattle.std.proofs.lemmas.List.{get_or_read}
-use Rattle.ooc_types.specs.declared.value.Value.TheVariants.{Null}
+use Rattle.std.proofs.Common.{ap, ◌∙◌, rules}
 use Rattle.sql_expr.specs.declared.tree.Expr.TheViews.{the_lemmas, out-Expr, outs-Constant, outs-Column, outs-Minus, outs-Chain}
-use Rattle.sql_expr.specs.declared.tree.Expr.TheOpen.{Expr-F}
 use Rattle.sql_expr.specs.Kinds.{kind_of}
 use Rattle.sql_expr.proofs.Numbers.{minus_kind, minus_operand, chain_first, chain_links, constant_value, column_within, column_value, chain_result}
 use Rattle.sql_expr.proofs.number.+number.Goals as goal

@@ -1,4 +1,4 @@
-use Rattle.std.proofs.Common.{◌≡◌, ap, sym, ◌∙◌}
+use Rattle.std.proofs.Common.{ap, ◌∙◌}
 use Rattle.sql_expr.specs.declared.tree.Expr.TheViews.{out-Expr, outs-Constant, outs-Column}
 use Rattle.sql_expr.proofs.Texts.{constant_text, column_text, other_text}
 use Rattle.sql_expr.proofs.Numbers.{column_within}

@@ -1,4 +1,4 @@
-use Rattle.std.proofs.Common.{◌≡◌, ◌+◌, ◌≤◌, ap, sym, ◌∙◌, rules, subst, List, map, drop, inl, inr, arith}
+use Rattle.std.proofs.Common.{◌+◌, ◌≤◌, ap, sym, ◌∙◌, rules, subst, List, map, drop, inl, inr}
 use Rattle.std.specs.Prelude.{Ok}
 use Rattle.ooc_types.specs.declared.truth.Truth.{Truth as Ternary}
 use Rattle.sql_expr.specs.declared.tree.Expr.{Expr, size-Expr}

@@ -1,4 +1,4 @@
-use Rattle.std.proofs.Common.{◌≡◌, sym, ap, ◌∙◌}
+use Rattle.std.proofs.Common.{sym, ◌∙◌}
 use Rattle.sql_expr.specs.Characters.{characters}
 use Rattle.sql_expr.proofs.Greedy.{found_none}
 use Rattle.sql_expr.proofs.Fronts.{goes_on_now, ends}

@@ -1,4 +1,4 @@
-use Rattle.std.proofs.Common.{◌≡◌, sym, ap, ◌∙◌}
+use Rattle.std.proofs.Common.{sym, ap, ◌∙◌}
 use Rattle.std.specs.Str.{bytes_eq}
 use Rattle.sql_expr.specs.Characters.{characters}
 use Rattle.sql_expr.proofs.Fronts.{front_none, front_all, none_left}

@@ -1,4 +1,4 @@
-use Rattle.std.proofs.Common.{◌≡◌, sym, ap, ◌∙◌, arith}
+use Rattle.std.proofs.Common.{sym, ◌∙◌, arith}
 use Rattle.sql_expr.specs.Characters.{characters}
 use Rattle.sql_expr.proofs.Greedy.{found_none, some_now}
 use Rattle.sql_expr.proofs.Fronts.{everywhere, none_left, goes_on, ends}
