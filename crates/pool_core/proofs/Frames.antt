@@ -1,6 +1,6 @@
 -- A frame is in one place, after each kind of change.
-use Rattle.std.proofs.Common.{◌≡◌, ◌≢◌, ℕ, ◌<◌, List, length, Option, Some, None, refl, sym, ap, subst, inl, inr, ◌∙◌, arith}
-use Rattle.std.specs.Prelude.{slice_get, IsSomeAnd}
+use Rattle.std.proofs.Common.{◌≡◌, ℕ, List, length, Option, Some, None, refl, sym, subst, ◌∙◌}
+use Rattle.std.specs.Prelude.{slice_get}
 use Rattle.evict_ring.specs.declared.frame.Frame.{Frame}
 use Rattle.page_body.specs.declared.body.PageBody.{PageBody}
 use Rattle.page_body.specs.Bodies.{frame_of}

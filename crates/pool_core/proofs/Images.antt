@@ -1,5 +1,5 @@
 -- What is known of accepted images.
-use Rattle.std.proofs.Common.{◌≡◌, ℕ, ◌≤◌, List}
+use Rattle.std.proofs.Common.{ℕ, ◌≤◌, List}
 use Rattle.row_image.specs.declared.image.ImageKind.{ImageKind}
 use Rattle.row_image.specs.declared.image.ImageKind.TheVariants.{Rows, Heap, Plain}
 use Rattle.row_image.specs.Image.{part_count}

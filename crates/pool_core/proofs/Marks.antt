@@ -1,6 +1,6 @@
 -- What an actor looked at stays as it is while it reads.
-use Rattle.std.proofs.Common.{◌≡◌, ◌≢◌, ℕ, Bool, true, false, not, eqb, List, [], ◌∷◌, ◌++◌, length, get_or, Option, Some, None, refl, sym, ap, subst, ◌∙◌, inl, inr, arith}
-use Rattle.std.specs.Prelude.{slice_get, slice_set, filter, IsSomeAnd, ◌||◌}
+use Rattle.std.proofs.Common.{◌≡◌, ◌≢◌, ℕ, true, false, not, eqb, List, [], ◌∷◌, ◌++◌, get_or, Option, Some, None, refl, sym, ap, subst, ◌∙◌, inl, inr}
+use Rattle.std.specs.Prelude.{slice_get, ◌||◌}
 use Rattle.std.specs.List.{Contains, list_any}
 use Rattle.std.proofs.lemmas.Bool.{cases_eq, cases_Bool, eq-eqb, eqb-false, and_cases, or_parts, not-true, false≢true}
 use Rattle.std.proofs.lemmas.List.Elements.{Contains-push_cases}
@@ -8,7 +8,7 @@ use Rattle.row_image.specs.Image.{part_at}
 use Rattle.page_body.specs.Bodies.{image_of}
 use Rattle.pool_core.specs.declared.state.CorePage.{CorePage}
 use Rattle.pool_core.specs.declared.state.Mark.{Mark}
-use Rattle.pool_core.specs.State.{OnPage, LiesAt}
+use Rattle.pool_core.specs.State.{LiesAt}
 use Rattle.pool_core.specs.Enabled.{HoldsHeap, LooksThrough, CanLook}
 use Rattle.pool_core.specs.Readers.{without_one}
 use Rattle.pool_core.specs.Effects.{names_page, has_heap_page, rests_on, marks_left}

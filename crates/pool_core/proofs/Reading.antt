@@ -3,10 +3,8 @@ use Rattle.std.proofs.Common.{◌≡◌, ◌≢◌, ℕ, List, [], ◌∷◌, �
 use Rattle.std.specs.Prelude.{slice_get, slice_set, IsSomeAnd, is_some}
 use Rattle.std.proofs.lemmas.Bool.{cases_eq}
 use Rattle.std.proofs.lemmas.Option.{slice_get_within}
-use Rattle.page_body.specs.declared.body.PageBody.{PageBody}
 use Rattle.page_body.specs.Bodies.{frame_of, installed, rested, killed}
 use Rattle.evict_ring.specs.Lending.{frame_with}
-use Rattle.pool_core.specs.declared.state.CoreTurn.{CoreTurn}
 use Rattle.pool_core.specs.declared.state.CorePage.{CorePage}
 use Rattle.pool_core.specs.declared.event.Event.{Event}
 use Rattle.pool_core.specs.declared.event.Event.TheVariants.{Hand, Take, Give, Read, Leave, Claim, Put, Seal, Look}
@@ -16,7 +14,6 @@ use Rattle.pool_core.specs.Readers.{without_one}
 use Rattle.pool_core.specs.State.{State, OnPage, OnTurn}
 use Rattle.pool_core.specs.Enabled.{Enabled, CanChange}
 use Rattle.pool_core.specs.Effects.{with_turn, with_page, put, owned, spared, given_ticket, kept_of, new_page, marks_left, Changes, Acts}
-use Rattle.pool_core.specs.Run.{Steps, Ran}
 use Rattle.pool_core.specs.Sound.{AllStand, Sound}
 use Rattle.pool_core.specs.Laws.{IsSamePage, KeepsRead, RanRead}
 use Rattle.pool_core.proofs.Lists.{Puts, puts_set, puts_push, at_some, of_some, some_of, same_at}

@@ -1,8 +1,7 @@
 -- What an enabled event finds in a sound state.
-use Rattle.std.proofs.Common.{◌≡◌, ◌≢◌, ℕ, ◌<◌, ◌%◌, ◌^◌, List, length, true, Option, Some, None, refl, sym, ap, subst, ◌∙◌, arith}
+use Rattle.std.proofs.Common.{◌≡◌, ℕ, ◌<◌, ◌%◌, ◌^◌, List, length, true, Option, Some, None, refl, sym, ap, subst, ◌∙◌}
 use Rattle.std.specs.Prelude.{slice_get, IsSome, IsSomeAnd}
 use Rattle.std.proofs.lemmas.Option.{slice_get_within}
-use Rattle.ooc_io.specs.declared.ticket.Ticket.{Ticket}
 use Rattle.evict_ring.specs.declared.frame.Frame.{Frame}
 use Rattle.row_image.specs.declared.image.ImageKind.{ImageKind}
 use Rattle.row_image.specs.Bytes.{IsPage}
@@ -10,15 +9,15 @@ use Rattle.row_image.specs.Rules.{IsAccepted}
 use Rattle.page_body.specs.declared.body.PageBody.{PageBody}
 use Rattle.page_body.specs.declared.body.PageBody.TheVariants.{Resident, Resting, Dead}
 use Rattle.page_body.specs.Bodies.{IsResident, IsResting, frame_of, image_of, ticket_of}
-use Rattle.page_body.specs.Stands.{StandsFor, ImageStands, KeptStands}
+use Rattle.page_body.specs.Stands.{StandsFor, KeptStands}
 use Rattle.pool_core.specs.declared.state.CoreTurn.{CoreTurn}
 use Rattle.pool_core.specs.declared.state.CorePage.{CorePage}
-use Rattle.pool_core.specs.declared.event.Change.TheVariants.{Keep, Install, Rest, Rebase, Kill}
+use Rattle.pool_core.specs.declared.event.Change.TheVariants.{Install, Rest, Rebase}
 use Rattle.pool_core.specs.State.{State, OnPage, OnTurn, IsOut, content_of}
 use Rattle.pool_core.specs.Enabled.{HasSpare, HasHeap, CanSeal, CanChange}
 use Rattle.pool_core.specs.Effects.{kept_of}
 use Rattle.pool_core.specs.Sound.{FrameLies, BodyLies, PageStands, IsWhole, Sound}
-use Rattle.pool_core.proofs.Lists.{at_some, of_some, some_of}
+use Rattle.pool_core.proofs.Lists.{at_some, some_of}
 
 pub on_some : {A : Type 0} (o : Option A) (P Q : A → Type 0) → IsSomeAnd o P → ((x : A) → o ≡ Some x → P x → Q x) → IsSomeAnd o Q
 on_some o P Q h go = let some = some_of o P h in at_some o Q some.0 some.1 (go some.0 some.1 some.2)

@@ -1,5 +1,5 @@
 -- Runs, one event after another.
-use Rattle.std.proofs.Common.{◌≡◌, ℕ, ◌<◌, ◌≤◌, ◌+◌, List, [], ◌∷◌, ◌++◌, length, take, inl, inr, Option, Some, None, refl, sym, ap, subst, ◌∙◌, arith}
+use Rattle.std.proofs.Common.{◌≡◌, ℕ, ◌<◌, ◌+◌, List, [], ◌∷◌, ◌++◌, length, take, inl, inr, Option, Some, None, refl, sym, ap, subst, ◌∙◌, arith}
 use Rattle.std.specs.Prelude.{slice_get, IsSomeAnd}
 use Rattle.std.proofs.lemmas.Option.{slice_get_within}
 use Rattle.std.specs.List.{Contains}
@@ -14,7 +14,7 @@ use Rattle.pool_core.specs.State.{State, OnTurn}
 use Rattle.std.proofs.lemmas.Bool.{cases_eq}
 use Rattle.pool_core.specs.Enabled.{Enabled}
 use Rattle.pool_core.specs.Run.{IsNewTurn, Opened, Steps, Ran, IsRun}
-use Rattle.pool_core.specs.Sound.{FrameLies, TurnsLie, Sound}
+use Rattle.pool_core.specs.Sound.{FrameLies, Sound}
 use Rattle.pool_core.proofs.Lists.{puts_push, at_some, of_some, some_of}
 use Rattle.pool_core.proofs.SoundStep.{sound_step}
 

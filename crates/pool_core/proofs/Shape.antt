@@ -1,5 +1,5 @@
 -- The bytes of a page and the count of turns stay.
-use Rattle.std.proofs.Common.{◌≡◌, ℕ, List, [], ◌∷◌, ◌++◌, length, Option, Some, None, refl, sym, ap, ◌∙◌}
+use Rattle.std.proofs.Common.{◌≡◌, ℕ, List, [], ◌∷◌, ◌++◌, length, Some, None, refl, ap, ◌∙◌}
 use Rattle.std.specs.Prelude.{slice_get, slice_set, IsSomeAnd}
 use Rattle.std.proofs.lemmas.List.{length-set}
 use Rattle.page_body.specs.Bodies.{frame_of, installed, rested, killed}
@@ -11,9 +11,9 @@ use Rattle.pool_core.specs.declared.event.Event.TheVariants.{Hand, Take, Give, R
 use Rattle.pool_core.specs.declared.event.Change.{Change}
 use Rattle.pool_core.specs.declared.event.Change.TheVariants.{Keep, Install, Rest, Rebase, Kill}
 use Rattle.pool_core.specs.Readers.{without_one}
-use Rattle.pool_core.specs.State.{State, OnPage, OnTurn}
+use Rattle.pool_core.specs.State.{State, OnTurn}
 use Rattle.pool_core.specs.Effects.{with_turn, with_page, put, owned, spared, given_ticket, kept_of, new_page, marks_left, Changes, Acts}
-use Rattle.pool_core.specs.Run.{Ran, Opened, IsRun}
+use Rattle.pool_core.specs.Run.{Ran, IsRun}
 use Rattle.pool_core.proofs.Lists.{some_of}
 
 pub record SameShape (old new : State) : Type 0 where

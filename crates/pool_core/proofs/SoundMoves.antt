@@ -1,28 +1,24 @@
 -- A frame moves between a turn and a page: what stays true.
-use Rattle.std.proofs.Common.{◌≡◌, ◌≢◌, ℕ, ◌<◌, ◌≤◌, List, [], ◌∷◌, ◌++◌, length, get_or, true, false, Option, Some, None, refl, sym, ap, subst, ◌∙◌, arith}
-use Rattle.std.specs.Prelude.{slice_get, slice_set, IsSome, IsSomeAnd, is_some}
-use Rattle.std.specs.List.{Contains}
+use Rattle.std.proofs.Common.{◌≡◌, ℕ, ◌<◌, List, [], ◌∷◌, ◌++◌, length, get_or, true, Option, Some, None, refl, sym, ap, subst, ◌∙◌, arith}
+use Rattle.std.specs.Prelude.{slice_get, slice_set}
 use Rattle.std.proofs.lemmas.Option.{slice_get_within}
 use Rattle.evict_ring.specs.declared.frame.Frame.{Frame}
 use Rattle.evict_ring.specs.Lending.{frame_with}
 use Rattle.row_image.specs.declared.image.ImageKind.{ImageKind}
 use Rattle.row_image.specs.Rules.{IsAccepted}
 use Rattle.row_image.specs.Flat.{flat}
-use Rattle.page_body.specs.declared.body.PageBody.{PageBody}
 use Rattle.page_body.specs.Stands.{ImageStands}
-use Rattle.page_body.specs.Bodies.{IsResident, frame_of, image_of, installed, rested}
+use Rattle.page_body.specs.Bodies.{frame_of, installed, rested}
 use Rattle.pool_core.specs.declared.state.CoreTurn.{CoreTurn}
 use Rattle.pool_core.specs.declared.state.CorePage.{CorePage}
-use Rattle.pool_core.specs.declared.state.Mark.{Mark}
-use Rattle.pool_core.specs.State.{State, OnPage, OnTurn, IsHeap, IsLive, content_of}
+use Rattle.pool_core.specs.State.{State, OnPage, IsHeap, IsLive, content_of}
 use Rattle.pool_core.specs.Enabled.{NamesHeap, CanSeal}
 use Rattle.pool_core.specs.Effects.{with_turn, with_page, put, owned, spared, given_ticket, kept_of, new_page}
 use Rattle.pool_core.specs.Sound.{FrameLies, PageStands, HeapsAre, HasFrame, Sound}
-use Rattle.pool_core.proofs.Lists.{Puts, puts_set, puts_push, each_put, at_some, of_some, some_of, on_put, same_at}
+use Rattle.pool_core.proofs.Lists.{puts_set, puts_push, each_put, at_some, some_of, on_put, same_at}
 use Rattle.pool_core.proofs.Frames.{HasNone, turns_given, pages_given, turns_taken, pages_taken}
 use Rattle.pool_core.proofs.Ready.{whole}
 use Rattle.pool_core.proofs.Bodies.{BodyStands, framed, installed_stands, installed_frame, resting_frame, rested_stands, rested_frame}
-use Rattle.pool_core.proofs.Contained.{nothing_in}
 use Rattle.pool_core.proofs.Marks.{unread_stays, marks_kept}
 use Rattle.pool_core.proofs.SoundParts.{heaps_kept, stand_kept, stands_put, unread_of}
 

@@ -1,9 +1,8 @@
 -- What stays true, part by part.
-use Rattle.std.proofs.Common.{◌≡◌, ◌≢◌, ℕ, ◌<◌, List, [], ◌∷◌, ◌++◌, length, get_or, true, false, Option, Some, None, refl, sym, ap, subst, ◌∙◌, arith}
-use Rattle.std.specs.Prelude.{slice_get, slice_set, IsSome, IsSomeAnd, is_some}
+use Rattle.std.proofs.Common.{◌≡◌, ℕ, ◌<◌, List, [], get_or, Option, Some, None, ap, subst}
+use Rattle.std.specs.Prelude.{slice_get, slice_set, IsSome, is_some}
 use Rattle.std.specs.List.{Contains}
 use Rattle.page_body.specs.declared.body.PageBody.{PageBody}
-use Rattle.pool_core.specs.declared.state.CoreTurn.{CoreTurn}
 use Rattle.pool_core.specs.declared.state.CorePage.{CorePage}
 use Rattle.pool_core.specs.declared.state.Mark.{Mark}
 use Rattle.pool_core.specs.State.{State, OnPage, IsHeap, content_of}
@@ -11,7 +10,7 @@ use Rattle.pool_core.specs.Effects.{put}
 use Rattle.pool_core.specs.Sound.{PageStands, AllStand, HeapsAre, MarksHold, Sound}
 use Rattle.pool_core.proofs.Lists.{Puts, puts_set, each_put, on_put, same_at}
 use Rattle.pool_core.proofs.Frames.{KeepsFrame, turns_kept, pages_kept}
-use Rattle.pool_core.proofs.Bodies.{BodyStands, same_frame}
+use Rattle.pool_core.proofs.Bodies.{BodyStands}
 use Rattle.pool_core.proofs.Contained.{nothing_in}
 
 -- a page with another body, other claims and another writer

@@ -1,10 +1,9 @@
 -- What holds of a state holds after each event that it enables.
-use Rattle.std.proofs.Common.{◌≡◌, ℕ, ◌<◌, List, [], ◌∷◌, ◌++◌, length, get_or, Option, Some, None, refl, sym, ap, subst, ◌∙◌, arith}
-use Rattle.std.specs.Prelude.{slice_get, slice_set, IsSome, IsSomeAnd, is_some, Result, Ok, Err, OnOk, OnErr}
-use Rattle.std.specs.List.{Contains}
+use Rattle.std.proofs.Common.{◌≡◌, ℕ, [], ◌∷◌, ◌++◌, length, Option, Some, None, refl, sym, ap, subst}
+use Rattle.std.specs.Prelude.{slice_get, slice_set, IsSomeAnd, is_some, Result, Ok, Err, OnOk, OnErr}
 use Rattle.std.proofs.lemmas.List.Elements.{Contains-append_left}
 use Rattle.page_body.specs.declared.body.PageBody.{PageBody}
-use Rattle.page_body.specs.Bodies.{IsResting, frame_of, installed, rested, killed}
+use Rattle.page_body.specs.Bodies.{frame_of, installed, rested, killed}
 use Rattle.evict_ring.specs.Lending.{frame_with}
 use Rattle.pool_core.specs.declared.state.CoreTurn.{CoreTurn}
 use Rattle.pool_core.specs.declared.state.CorePage.{CorePage}
@@ -13,10 +12,10 @@ use Rattle.pool_core.specs.declared.event.Event.TheVariants.{Hand, Take, Give, R
 use Rattle.pool_core.specs.declared.event.Change.{Change}
 use Rattle.pool_core.specs.declared.event.Change.TheVariants.{Keep, Install, Rest, Rebase, Kill}
 use Rattle.pool_core.specs.Readers.{without_one}
-use Rattle.pool_core.specs.State.{State, OnPage, OnTurn, content_of}
-use Rattle.pool_core.specs.Enabled.{Enabled, CanChange, CanSeal, CanLook}
-use Rattle.pool_core.specs.Effects.{with_turn, with_page, put, owned, spared, given_ticket, kept_of, Rebases, new_page, marks_left, Changes, Acts}
-use Rattle.pool_core.specs.Sound.{PageStands, Sound}
+use Rattle.pool_core.specs.State.{State, OnTurn, content_of}
+use Rattle.pool_core.specs.Enabled.{Enabled, CanChange, CanLook}
+use Rattle.pool_core.specs.Effects.{with_turn, with_page, put, owned, spared, given_ticket, kept_of, new_page, marks_left, Changes, Acts}
+use Rattle.pool_core.specs.Sound.{Sound}
 use Rattle.pool_core.proofs.Lists.{puts_set, of_some, some_of}
 use Rattle.pool_core.proofs.Frames.{KeepsFrame, turns_out, pages_out}
 use Rattle.pool_core.proofs.Ready.{kept_long}

@@ -1,19 +1,17 @@
 -- Where an actor has looked at a row page, each long cell leads to its text.
-use Rattle.std.proofs.Common.{◌≡◌, ◌≢◌, ℕ, ◌+◌, ◌*◌, ◌/◌, ◌%◌, ◌<◌, ◌≤◌, List, length, get_or, true, Option, Some, None, refl, sym, ap, subst, ◌∙◌, arith}
+use Rattle.std.proofs.Common.{◌≡◌, ℕ, ◌+◌, ◌*◌, ◌/◌, ◌%◌, ◌<◌, List, length, get_or, true, Some, None, refl, sym, ap, subst, ◌∙◌, arith}
 use Rattle.std.specs.Prelude.{slice_get, slice_range, IsSomeAnd}
 use Rattle.std.specs.List.{Contains}
-use Rattle.ooc_io.specs.declared.ticket.Ticket.{Ticket}
 use Rattle.evict_ring.specs.declared.frame.Frame.{Frame}
 use Rattle.row_image.specs.declared.layout.CellKind.{CellKind}
 use Rattle.row_image.specs.declared.image.ImageKind.{ImageKind}
 use Rattle.row_image.specs.declared.image.ImageKind.TheVariants.{Rows, Heap, Plain}
 use Rattle.row_image.specs.Bytes.{IsPage}
-use Rattle.row_image.specs.Cells.{LongCell}
-use Rattle.row_image.specs.Image.{row_count, part_at, stored_cell}
+use Rattle.row_image.specs.Image.{part_at, stored_cell}
 use Rattle.row_image.specs.Rules.{IsAccepted}
 use Rattle.row_image.specs.Flat.{flat}
 use Rattle.row_image.specs.Texts.{TextValue, value_of, CellValue}
-use Rattle.row_image.specs.Followed.{LiesIn, IsOnHeap, IsFollowed}
+use Rattle.row_image.specs.Followed.{LiesIn, IsFollowed}
 use Rattle.row_image.proofs.Laws.{accepted_parts}
 use Rattle.row_image.proofs.Followed.{long_lies, text_followed}
 use Rattle.page_body.specs.declared.body.PageBody.{PageBody}
@@ -21,11 +19,10 @@ use Rattle.page_body.specs.declared.body.PageBody.TheVariants.{Resident, Resting
 use Rattle.page_body.specs.Bodies.{IsResident, frame_of, image_of}
 use Rattle.page_body.specs.Stands.{StandsFor, ImageStands}
 use Rattle.pool_core.specs.declared.state.CorePage.{CorePage}
-use Rattle.pool_core.specs.declared.state.Mark.{Mark}
-use Rattle.pool_core.specs.State.{State, OnPage, IsHeap, LiesAt, content_of}
+use Rattle.pool_core.specs.State.{State, IsHeap, LiesAt, content_of}
 use Rattle.pool_core.specs.Enabled.{HasHeap, HoldsHeap, LooksThrough}
 use Rattle.pool_core.specs.Sound.{Sound}
-use Rattle.pool_core.specs.Laws.{IsTextAt, LeadsToText, TextsStand}
+use Rattle.pool_core.specs.Laws.{IsTextAt, TextsStand}
 use Rattle.pool_core.proofs.Lists.{at_some, of_some, some_of}
 use Rattle.pool_core.proofs.Ready.{whole}
 

@@ -1,5 +1,5 @@
 -- What an event makes of the state.
-use Rattle.std.specs.Prelude.{◌≡◌, ℕ, ◌+◌, ◌%◌, ◌^◌, ◌==◌, not, ◌&&◌, ◌||◌, Bool, true, false, if◌then◌else◌, List, [], ◌∷◌, ◌++◌, length, slice_get, slice_set, filter, Option, Some, None, IsSomeAnd}
+use Rattle.std.specs.Prelude.{◌≡◌, ℕ, ◌+◌, ◌%◌, ◌^◌, ◌==◌, not, ◌&&◌, ◌||◌, Bool, false, if◌then◌else◌, List, [], ◌∷◌, ◌++◌, length, slice_get, slice_set, filter, Option, Some, None, IsSomeAnd}
 use Rattle.std.specs.List.{list_any}
 use Rattle.ooc_io.specs.declared.ticket.Ticket.{Ticket}
 use Rattle.evict_ring.specs.declared.frame.Frame.{Frame}
@@ -8,7 +8,7 @@ use Rattle.row_image.specs.declared.image.ImageKind.{ImageKind}
 use Rattle.row_image.specs.declared.image.ImageKind.TheVariants.{Rows, Heap, Plain}
 use Rattle.page_body.specs.declared.body.PageBody.{PageBody}
 use Rattle.page_body.specs.declared.body.PageBody.TheVariants.{Resident, Resting, Dead}
-use Rattle.page_body.specs.Bodies.{frame_of, ticket_of, installed, rested, killed, IsRebased}
+use Rattle.page_body.specs.Bodies.{frame_of, installed, rested, killed, IsRebased}
 use Rattle.pool_core.specs.declared.state.CoreTurn.{CoreTurn}
 use Rattle.pool_core.specs.declared.state.CorePage.{CorePage}
 use Rattle.pool_core.specs.declared.state.Mark.{Mark}

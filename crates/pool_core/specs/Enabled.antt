@@ -1,11 +1,10 @@
 -- When an event is enabled. One that names an actor, a frame or a page that isn't there isn't.
-use Rattle.std.specs.Prelude.{◌≡◌, ◌≢◌, ◌⊎◌, ℕ, ◌<◌, ◌^◌, ◌%◌, List, [], length, get_or, slice_get, Option, Some, None, IsSome, IsSomeAnd, MatchOption, ⊤}
+use Rattle.std.specs.Prelude.{◌≡◌, ◌≢◌, ℕ, ◌<◌, ◌^◌, ◌%◌, List, [], length, get_or, Option, Some, None, IsSome, IsSomeAnd, ⊤}
 use Rattle.std.specs.List.{Contains}
 use Rattle.row_image.specs.declared.image.ImageKind.{ImageKind}
 use Rattle.row_image.specs.declared.image.ImageKind.TheVariants.{Rows, Heap, Plain}
 use Rattle.row_image.specs.Image.{part_count, part_at, no_heap}
 use Rattle.row_image.specs.Rules.{IsAccepted}
-use Rattle.page_body.specs.declared.body.PageBody.{PageBody}
 use Rattle.page_body.specs.Bodies.{IsResident, IsResting, frame_of, image_of}
 use Rattle.pool_core.specs.declared.state.CoreTurn.{CoreTurn}
 use Rattle.pool_core.specs.declared.state.CorePage.{CorePage}

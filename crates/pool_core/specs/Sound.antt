@@ -1,5 +1,5 @@
 -- What stays true over every run.
-use Rattle.std.specs.Prelude.{◌≡◌, ◌≢◌, ℕ, ◌+◌, ◌<◌, ◌≤◌, ◌*◌, Bool, true, false, List, [], length, get_or, slice_get, count_by, is_some, Option, Some, None, IsSome, IsSomeAnd}
+use Rattle.std.specs.Prelude.{◌≡◌, ℕ, ◌<◌, true, List, [], length, get_or, slice_get, Option, Some, None, IsSome, IsSomeAnd}
 use Rattle.std.specs.Option.{ForSome}
 use Rattle.std.specs.List.{Contains}
 use Rattle.evict_ring.specs.declared.frame.Frame.{Frame}
@@ -12,7 +12,7 @@ use Rattle.pool_core.specs.declared.state.CoreTurn.{CoreTurn}
 use Rattle.pool_core.specs.declared.state.CorePage.{CorePage}
 use Rattle.pool_core.specs.declared.state.Mark.{Mark}
 use Rattle.pool_core.specs.State.{State, OnPage, OnTurn, content_of, IsHeap}
-use Rattle.pool_core.specs.Enabled.{CanLook, NamesHeap, HasHeap}
+use Rattle.pool_core.specs.Enabled.{CanLook}
 
 -- a body that has the frame of this number
 abbrev pub HasFrame : ℕ → PageBody → Type 0

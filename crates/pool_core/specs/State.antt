@@ -1,7 +1,6 @@
 -- What the core's state says.
-use Rattle.std.specs.Prelude.{◌≡◌, ℕ, ◌<◌, ◌*◌, List, slice_get, slice_set, Option, Some, None, IsSomeAnd, ⊤}
+use Rattle.std.specs.Prelude.{◌≡◌, ℕ, ◌*◌, List, slice_get, Some, IsSomeAnd, ⊤}
 use Rattle.std.specs.List.{Contains}
-use Rattle.evict_ring.specs.declared.frame.Frame.{Frame}
 use Rattle.row_image.specs.declared.image.ImageKind.{ImageKind}
 use Rattle.row_image.specs.declared.image.ImageKind.TheVariants.{Rows, Heap, Plain}
 use Rattle.row_image.specs.Flat.{flat}

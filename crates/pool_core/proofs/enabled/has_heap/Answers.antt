@@ -1,8 +1,7 @@
 use Rattle.row_image.proofs.Laws.{accepted_parts}
 use Rattle.row_image.specs.declared.image.ImageKind.{ImageKind}
-use Rattle.row_image.specs.declared.image.ImageKind.TheVariants.{Rows}
 use Rattle.row_image.specs.Rules.{IsAccepted}
-use Rattle.std.proofs.Common.{subst, ◌≡◌}
+use Rattle.std.proofs.Common.{subst}
 use Rattle.pool_core.proofs.enabled.has_heap.Goals as goal
 
 pub part_of-requires-clause-few : goal.part_of-requires-clause-few

@@ -1,4 +1,4 @@
-use Rattle.std.proofs.Common.{◌≡◌, ◌≤◌, ℕ, List, subst, sym, ap, ◌∙◌}
+use Rattle.std.proofs.Common.{◌≤◌, ℕ, List, subst, sym, ap, ◌∙◌}
 use Rattle.row_image.specs.Image.{part_count}
 use Rattle.page_body.specs.declared.body.PageBody.{PageBody}
 use Rattle.page_body.specs.Bodies.{IsResident, image_of}

@@ -1,4 +1,4 @@
-use Rattle.std.proofs.Common.{◌≡◌, ◌≤◌, ℕ, length, subst}
+use Rattle.std.proofs.Common.{◌≤◌, ℕ, length, subst}
 use Rattle.pool_core.specs.Sound.{TurnsLie, PagesLie}
 use Rattle.pool_core.specs.Laws.{frames_in_use}
 use Rattle.pool_core.proofs.Runs.{run_sound}

@@ -1,4 +1,4 @@
-use Rattle.std.proofs.Common.{◌≡◌, ℕ, subst}
+use Rattle.std.proofs.Common.{ℕ, subst}
 use Rattle.pool_core.specs.Sound.{MarksHold}
 use Rattle.pool_core.proofs.Runs.{run_sound}
 use Rattle.pool_core.proofs.Shape.{run_shape}

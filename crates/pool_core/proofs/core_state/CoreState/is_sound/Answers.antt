@@ -1,4 +1,4 @@
-use Rattle.std.proofs.Common.{◌≡◌, subst}
+use Rattle.std.proofs.Common.{subst}
 use Rattle.pool_core.specs.State.{State, state_of}
 use Rattle.pool_core.specs.Sound.{Sound}
 use Rattle.pool_core.specs.Laws.{IsLawful}

@@ -1,8 +1,8 @@
-use Rattle.std.proofs.Common.{◌≡◌, ◌+◌, [], ◌∷◌, ◌++◌, ap, sym, ◌∙◌, append_assoc}
+use Rattle.std.proofs.Common.{◌+◌, [], ◌∷◌, ◌++◌, ap, sym, ◌∙◌, append_assoc}
 use Rattle.std.proofs.lemmas.List.{length_push}
 use Rattle.std.proofs.lemmas.Bool.{iff_false}
 use Rattle.pool_core.proofs.Lawful.{lawful}
-use Rattle.pool_core.proofs.Runs.{ran_more, stopped_at, short_of_memory}
+use Rattle.pool_core.proofs.Runs.{ran_more, stopped_at}
 use Rattle.pool_core.proofs.core_state.CoreState.run.Goals as goal
 
 pub returns-then-not-enabled-clause-stopped : goal.returns-then-not-enabled-clause-stopped
@@ -26,6 +26,7 @@ loop-event-preserved c =
       ran = ran_more c.args.self.now c.loop-event.self c.step.new.self ys event c.loop-event.invariant.ran
           (record { enabled = c.enabled.ensures.0 c.if-not-enabled.false; acts = c.in-Ok.ensures.acts });
     }
+
 pub returns-then-not-enabled-clause-lawful : goal.returns-then-not-enabled-clause-lawful
 returns-then-not-enabled-clause-lawful c = lawful c.loop-event.self c.loop-event.invariant.sound
 

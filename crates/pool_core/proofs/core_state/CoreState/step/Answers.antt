@@ -1,7 +1,6 @@
-use Rattle.std.proofs.Common.{◌≡◌, subst, sym}
+use Rattle.std.proofs.Common.{subst, sym}
 use Rattle.pool_core.specs.State.{State, state_of}
 use Rattle.pool_core.specs.Enabled.{Enabled}
-use Rattle.pool_core.specs.Laws.{KeepsRead}
 use Rattle.pool_core.proofs.SoundStep.{sound_after}
 use Rattle.pool_core.proofs.Lawful.{lawful, read_after}
 use Rattle.pool_core.proofs.core_state.CoreState.step.Goals as goal

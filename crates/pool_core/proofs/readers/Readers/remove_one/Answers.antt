@@ -1,4 +1,4 @@
-use Rattle.std.proofs.Common.{◌≡◌, ◌∙◌, sym, ap}
+use Rattle.std.proofs.Common.{◌∙◌, sym, ap}
 use Rattle.std.specs.Prelude.{position, ◌==◌}
 use Rattle.pool_core.specs.Readers.{without_one}
 use Rattle.pool_core.proofs.ReaderLemmas.{without-found, without-absent}
