@@ -61,8 +61,8 @@ decreases-between l = 40 * l.depth + 12
 abbrev pub decreases-range_test : goal.decreases-range_test
 decreases-range_test l = 40 * l.depth + 13
 
-abbrev pub decreases-test : goal.decreases-test
-decreases-test l = 40 * l.depth + 14
+abbrev pub decreases-after_sum : goal.decreases-after_sum
+decreases-after_sum l = 40 * l.depth + 14
 
 abbrev pub decreases-pred : goal.decreases-pred
 decreases-pred l = 40 * l.depth + 15
