@@ -6,3 +6,4 @@ pub mod OutOfRange
 pub mod Rounding
 pub mod Spelled
 pub mod Signs
+pub mod EndLemmas

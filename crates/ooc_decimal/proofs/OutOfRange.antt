@@ -7,7 +7,7 @@ use Rattle.std.proofs.lemmas.Int.{ints, unsigned_abs-mul}
 use Rattle.std.proofs.Math.Nat.{le-mul_of_pos_right, pow-suc, mul_assoc}
 use Prim.Native.Nat.{zero}
 use Rattle.ooc_types.specs.declared.schema.SqlType.{SqlType}
-use Rattle.ooc_types.specs.declared.schema.SqlType.TheVariants.{Boolean, Integer, BigInt, HugeInt, Decimal, Varchar}
+use Rattle.ooc_types.specs.declared.schema.SqlType.TheVariants.{Boolean, Integer, BigInt, HugeInt, Decimal, Date, Varchar}
 use Rattle.ooc_types.specs.Meets.{IsInRange}
 use Rattle.ooc_decimal.specs.Numeric.{IsNumeric, signed}
 use Rattle.ooc_decimal.proofs.Point.{unit_below, unit_above}
@@ -16,6 +16,7 @@ use Rattle.ooc_decimal.proofs.Signs.{times_signed, abs-signed, stays_large}
 -- what is in a range fits an `i128`
 fits : (kind : SqlType) → IsNumeric kind → (z : ℤ) → IsInRange kind z → SFits w128 z
 fits Boolean numeric z inside = absurd inside
+fits Date numeric z inside = absurd inside
 fits Varchar numeric z inside = absurd inside
 fits HugeInt numeric z inside = inside
 fits Integer numeric (pos n) inside = let h : n < 2 ^ 31 = inside.sfits in record { sfits = omega arith }

@@ -5,3 +5,4 @@ pub mod Exact
 pub mod Numeral
 pub mod Digits
 pub mod Read
+pub mod Ends

@@ -3,6 +3,7 @@
 
 mod arithmetic;
 mod digits;
+mod ends;
 mod narrow;
 mod places;
 mod powers;
@@ -13,7 +14,9 @@ mod signed;
 mod trim;
 
 pub use arithmetic::{add, mul, negate, quotient, remainder, sub};
+pub use ends::{greatest, least, nearest_number};
 pub use print::{number_length, print_number};
+pub use range::scale;
 pub use read::read_number;
 
 #[cfg(test)]

@@ -17,7 +17,7 @@ pub fn in_range(digits: i128, kind: SqlType) -> Option<i128>
             && digits <= 9_223_372_036_854_775_807,
         SqlType::HugeInt => true,
         SqlType::Decimal { width, .. } => digits.unsigned_abs() < power_of_ten(width),
-        SqlType::Boolean | SqlType::Varchar => false,
+        SqlType::Boolean | SqlType::Date | SqlType::Varchar => false,
     };
     if fits { Some(digits) } else { None }
 }
@@ -32,6 +32,7 @@ pub fn scale(kind: SqlType) -> u8
         | SqlType::Integer
         | SqlType::BigInt
         | SqlType::HugeInt
+        | SqlType::Date
         | SqlType::Varchar => 0,
     }
 }

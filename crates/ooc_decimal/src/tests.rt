@@ -21,7 +21,7 @@ fn is_numeric(kind: SqlType) -> bool
     match kind {
         SqlType::Decimal { width, scale } => 1 <= width && width <= 38 && scale <= width,
         SqlType::Integer | SqlType::BigInt | SqlType::HugeInt => true,
-        SqlType::Boolean | SqlType::Varchar => false,
+        SqlType::Boolean | SqlType::Date | SqlType::Varchar => false,
     }
 }
 

@@ -1,2 +1,5 @@
 pub mod Order
+pub mod Strict
 pub mod Meets
+pub mod Canonical
+pub mod Keys

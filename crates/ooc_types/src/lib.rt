@@ -1,6 +1,7 @@
 //! Values, rows and schemas: the types that every crate above names.
 #![tactic(auto)]
 
+mod canonical;
 mod laws;
 mod memory;
 mod order;
@@ -11,7 +12,11 @@ mod text;
 mod truth;
 mod value;
 
-pub use laws::{numbers_compare_by_value, values_are_totally_ordered};
+pub use canonical::{canonical_bytes, day_bytes, digits_bytes, length_bytes, reduce};
+pub use laws::{
+    keys_have_their_own_bytes, numbers_compare_by_value, strict_order_is_total,
+    values_are_totally_ordered,
+};
 pub use memory::OutOfMemory;
 pub use order::cmp_values;
 pub use refusal::RefusalKind;

@@ -25,9 +25,13 @@ pub enum RefusalKind {
     DecimalTooWide,
     TooManyColumns,
     TooManyTables,
-    NoJoinKey,
     BadOption,
     BadPosition,
+    ColumnCount,
+    InHere,
+    DistinctMix,
+    BadDate,
+    NotInSession,
     // Of a statement and of a CSV record.
     TextTooLong,
     // Of a CSV record.

@@ -15,6 +15,7 @@ pub enum SqlType {
     BigInt,
     HugeInt,
     Decimal { width: u8, scale: u8 },
+    Date,
     Varchar,
 }
 

@@ -51,6 +51,9 @@ fn values_are_ordered_by_kind_and_within_it(rt: HostRuntime) -> Result<(), Fail>
     rising.push(number(i128::MAX, 0))?;
     rising.push(Value::Truth(false))?;
     rising.push(Value::Truth(true))?;
+    rising.push(Value::Day(-719_162))?;
+    rising.push(Value::Day(-1))?;
+    rising.push(Value::Day(0))?;
     rising.push(Value::Text(Text::from_slice(alloc, b"")?))?;
     rising.push(Value::Text(Text::from_slice(alloc, b"ab")?))?;
     rising.push(Value::Text(Text::from_slice(alloc, b"b")?))?;
@@ -63,5 +66,21 @@ fn values_are_ordered_by_kind_and_within_it(rt: HostRuntime) -> Result<(), Fail>
             assert_eq!(rt; cmp_values(low, high), i.cmp(&j), "{i} and {j}");
         }
     }
+    Ok(())
+}
+
+#[test]
+fn keys_have_canonical_bytes(rt: HostRuntime) -> Result<(), Fail> {
+    let alloc = rt.alloc();
+    let mut key = Vec::new(alloc);
+    key.push(number(150, 2))?;
+    key.push(Value::Null)?;
+    key.push(Value::Text(Text::from_slice(alloc, b"ab")?))?;
+    key.push(Value::Truth(true))?;
+    key.push(Value::Day(-2))?;
+    let bytes = canonical_bytes(alloc, &key)?;
+    let expected =
+        b"\x01\x01\x0f\0\0\0\0\0\0\0\0\0\0\0\0\0\0\0\0\x03\x02\0\0\0ab\x02\x01\x04\xfe\xff\xff\xff";
+    assert_eq!(rt; bytes.as_slice(), expected.as_slice());
     Ok(())
 }

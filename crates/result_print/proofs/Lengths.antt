@@ -3,7 +3,7 @@ use Rattle.std.proofs.Common.{◌≡◌, ℕ, suc, ◌+◌, ◌<◌, List, [], �
 use Rattle.std.specs.List.{flat_map}
 use Prim.Native.Nat.{zero}
 use Rattle.ooc_types.specs.declared.value.Value.{Value}
-use Rattle.ooc_types.specs.declared.value.Value.TheVariants.{Null, Truth, Number, Text}
+use Rattle.ooc_types.specs.declared.value.Value.TheVariants.{Null, Truth, Number, Day, Text}
 use Rattle.ooc_types.specs.declared.schema.SqlType.{SqlType}
 use Rattle.ooc_types.specs.Meets.{Meets, HasForm}
 use Rattle.result_print.specs.Printed.{joined, quoted, doubled, line_text, IsShort}
@@ -26,6 +26,7 @@ short_form : (kind : SqlType) (value : Value) → HasForm 4095 kind value → Is
 short_form kind (Text bytes) form = form.1
 short_form kind (Number digits scale) form = tt
 short_form kind (Truth truth) form = tt
+short_form kind (Day day) form = tt
 short_form kind Null form = tt
 
 pub all_short : (kinds : List SqlType) (row : List Value) → Meets 4095 kinds row → (k : ℕ) (d : Value) → k < length row → IsShort (get_or row k d)

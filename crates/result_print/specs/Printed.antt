@@ -3,9 +3,11 @@ use Rattle.std.specs.Prelude.{ℕ, Bool, true, false, ◌||◌, List, [], ◌∷
 use Rattle.std.specs.List.{list_any, flat_map, join_with_byte}
 use Rattle.std.specs.Str.{bytes_eq}
 use Rattle.ooc_types.specs.declared.value.Value.{Value}
-use Rattle.ooc_types.specs.declared.value.Value.TheVariants.{Null, Truth, Number, Text}
+use Rattle.ooc_types.specs.declared.value.Value.TheVariants.{Null, Truth, Number, Day, Text}
 use Rattle.ooc_types.specs.declared.schema.Column.{Column}
 use Rattle.ooc_decimal.specs.Printed.{number_text}
+use Rattle.date_values.specs.Calendar.{nearest_day}
+use Rattle.date_values.specs.DateText.{day_text}
 
 -- a comma, a double quote, CR or LF
 abbrev pub is_special : ℕ → Bool
@@ -32,6 +34,7 @@ value_text Null = codes "NULL"
 value_text (Truth true) = codes "true"
 value_text (Truth false) = codes "false"
 value_text (Number digits scale) = number_text digits scale
+value_text (Day day) = day_text (nearest_day day)
 value_text (Text bytes) = field_text bytes
 
 -- fields with a comma between two of them
@@ -62,4 +65,5 @@ abbrev pub IsShort : Value → Type 0
 IsShort (Text bytes) = length bytes ≤ 4095
 IsShort (Number digits scale) = ⊤
 IsShort (Truth truth) = ⊤
+IsShort (Day day) = ⊤
 IsShort Null = ⊤

@@ -5,6 +5,7 @@ ghost use Rattle.result_print.specs.Printed as spec;
 ghost use Rattle.result_print.specs.Printed.{doubled, quoted, field_text, column_text, value_text};
 ghost use Rattle.ooc_decimal.specs.Kept.{KeepsFront};
 
+use date_values::print_date;
 use ooc_decimal::print_number;
 use ooc_types::{Column, OutOfMemory, Value};
 
@@ -91,6 +92,7 @@ impl Field for Value {
     fn push_to(&self, into: &mut Vec<u8>) -> Result<(), OutOfMemory> {
         match self {
             Value::Number { digits, scale } => print_number(*digits, *scale, into),
+            Value::Day(day) => push_word(&print_date(*day), into),
             Value::Text(text) => push_field(text.as_bytes(), into),
             Value::Null => push_word(b"NULL", into),
             Value::Truth(true) => push_word(b"true", into),

@@ -7,6 +7,9 @@ use crate::field::needs_quotes;
 use ooc_decimal::number_length;
 use ooc_types::{Row, Schema, Value};
 
+// `YYYY-MM-DD`
+const DATE_LENGTH: usize = 10;
+
 fn quoted_length(bytes: &[u8]) -> usize
     requires { length bytes.now ≤ 4095 }
     ensures length { result ≡ length (quoted bytes.now) }
@@ -31,6 +34,7 @@ fn field_length(bytes: &[u8]) -> usize
     }
 }
 
+#[tactic(auto, using(date_values::proofs::Texts::length_day_text))]
 fn value_length(value: &Value) -> usize
     requires { IsShort value.now }
     ensures length { result ≡ length (value_text value.now) }
@@ -38,6 +42,7 @@ fn value_length(value: &Value) -> usize
 {
     match value {
         Value::Number { digits, scale } => number_length(*digits, *scale),
+        Value::Day(_) => DATE_LENGTH,
         Value::Text(text) => field_length(text.as_bytes()),
         Value::Null | Value::Truth(true) => 4,
         Value::Truth(false) => 5,

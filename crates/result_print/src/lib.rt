@@ -5,9 +5,9 @@ mod field;
 mod length;
 mod line;
 
-pub use field::push_field;
+pub use field::{Field, push_field};
 pub use length::row_length;
-pub use line::{print_header, print_row};
+pub use line::{print_header, print_line, print_row};
 
 #[cfg(test)]
 mod tests;

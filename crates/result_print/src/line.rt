@@ -47,8 +47,8 @@ fn push_line<F: Field>(fields: &[F], into: &mut Vec<u8>) -> Result<(), OutOfMemo
     Ok(())
 }
 
-// The whole line, or nothing of it.
-fn print_line<F: Field>(fields: &[F], into: &mut Vec<u8>) -> Result<(), OutOfMemory>
+/// Appends the line of these fields, with its line feed. After a refusal `into` is as before.
+pub fn print_line<F: Field>(fields: &[F], into: &mut Vec<u8>) -> Result<(), OutOfMemory>
     ensures ok { OnOk result (into.new.items ≡ into.old.items ++ line_text (map F.text fields.now)) }
     ensures err { OnErr result (into.new.items ≡ into.old.items) }
 {

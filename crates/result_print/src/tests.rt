@@ -50,6 +50,8 @@ fn rows_print_each_kind_of_value(rt: HostRuntime) -> Result<(), Fail> {
         digits: 0,
         scale: 3,
     })?;
+    values.push(Value::Day(19_782))?;
+    values.push(Value::Day(i32::MIN))?;
     values.push(text(alloc, b"")?)?;
     values.push(text(alloc, b"null")?)?;
     values.push(text(alloc, b"NULL")?)?;
@@ -60,7 +62,8 @@ fn rows_print_each_kind_of_value(rt: HostRuntime) -> Result<(), Fail> {
     let mut printed = Vec::new(alloc);
     printed.push(b'>')?;
     print_row(&schema, &row, &mut printed)?;
-    let line = b">NULL,true,false,-0.5,0.000,\"\",null,\"NULL\",\"two\nlines\",\"\"\"\"\n";
+    let line =
+        b">NULL,true,false,-0.5,0.000,2024-02-29,0001-01-01,\"\",null,\"NULL\",\"two\nlines\",\"\"\"\"\n";
     assert_eq!(rt; printed.as_slice(), line.as_slice());
     Ok(())
 }

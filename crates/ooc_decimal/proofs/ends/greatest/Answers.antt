@@ -1,0 +1,15 @@
+use Rattle.std.proofs.Common.{◌≡◌, ℕ, ◌-◌, ◌^◌, ◌<◌, pos, sym, ap, ◌∙◌, arith}
+use Rattle.std.proofs.lemmas.Int.{ints}
+use Rattle.ooc_types.specs.declared.schema.SqlType.{SqlType}
+use Rattle.ooc_decimal.specs.Ends.{most_of}
+use Rattle.ooc_decimal.proofs.EndLemmas.{width_fits, most-Decimal}
+use Rattle.ooc_decimal.proofs.ends.greatest.Goals as goal
+
+pub returns-then-width-le-MAX_WIDTH : goal.returns-then-width-le-MAX_WIDTH
+returns-then-width-le-MAX_WIDTH c =
+    let w = c.in-Decimal.width in
+    let fits = width_fits w c.if-width-le-MAX_WIDTH.true in
+    let small : 10 ^ w - 1 < 2 ^ 127 = fits.sfits in
+    let value = c.greatest_of_width.ensures.value in
+    let most : most_of c.args.kind ≡ 10 ^ w - 1 = ap most_of c.in-Decimal.is ∙ most-Decimal w c.in-Decimal.scale c.if-width-le-MAX_WIDTH.true in
+    omega (arith, ints)
