@@ -1,2 +1,9 @@
+pub mod Bags
 pub mod Counts
+pub mod Firsts
+pub mod FirstsBy
+pub mod Lists
+pub mod Parts
+pub mod Rearranged
 pub mod RowTests
+pub mod Sums

@@ -6,7 +6,7 @@ use Rattle.std.specs.Ordering.{int_eq}
 use Rattle.std.proofs.lemmas.Bool.Decides.{Decides-eqb, Decides-int_eq, Decides-and, Decides-like}
 use Rattle.std.proofs.lemmas.Slice.Eq.{slice_eq-Decides, bytes_eq-Decides}
 use Rattle.ooc_types.specs.declared.value.Value.{Value}
-use Rattle.ooc_types.specs.declared.value.Value.TheVariants.{Null, Truth, Number, Text}
+use Rattle.ooc_types.specs.declared.value.Value.TheVariants.{Null, Truth, Number, Day, Text}
 use Rattle.ooc_bags.specs.Rows.{value_eq, row_eq}
 
 pub value_eq-Decides : (a b : Value) → Decides (value_eq a b) (a ≡ b)
@@ -16,6 +16,7 @@ value_eq-Decides (Truth false) (Truth false) = (λ e. refl, λ e. refl)
 value_eq-Decides (Number digits scale) (Number others place) =
     Decides-like _ (λ h. let d = h.0 in let s = h.1 in cc) (λ e. (cc, (cc)))
     (Decides-and (int_eq digits others) (nat_eq scale place) (Decides-int_eq digits others) (Decides-eqb scale place))
+value_eq-Decides (Day day) (Day other) = Decides-like _ (λ e. cc) (λ e. cc) (Decides-int_eq day other)
 value_eq-Decides (Text bytes) (Text others) = Decides-like _ (λ e. cc) (λ e. cc) (bytes_eq-Decides bytes others)
 value_eq-Decides a b = (λ e. cc, λ e. cc)
 

@@ -5,7 +5,7 @@ use Rattle.std.specs.Ordering.{int_eq}
 use Rattle.std.specs.Str.{bytes_eq}
 use Rattle.std.specs.Cmp.Lexicographic.{pointwise}
 use Rattle.ooc_types.specs.declared.value.Value.{Value}
-use Rattle.ooc_types.specs.declared.value.Value.TheVariants.{Null, Truth, Number, Text}
+use Rattle.ooc_types.specs.declared.value.Value.TheVariants.{Null, Truth, Number, Day, Text}
 
 -- of one kind, and the same in each part: 1.0 and 1.00 are two values
 abbrev pub value_eq : Value → Value → Bool
@@ -14,6 +14,7 @@ value_eq (Truth true) (Truth b) = b
 value_eq (Truth false) (Truth true) = false
 value_eq (Truth false) (Truth false) = true
 value_eq (Number digits scale) (Number others place) = int_eq digits others && nat_eq scale place
+value_eq (Day day) (Day other) = int_eq day other
 value_eq (Text bytes) (Text others) = bytes_eq bytes others
 value_eq a b = false
 

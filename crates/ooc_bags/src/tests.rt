@@ -1,8 +1,11 @@
-//! Worked bags.
+//! Worked bags and counts.
+ghost use Rattle.std.specs.Prelude.{◌≡◌, ◌+◌, ◌<◌, length};
 
 use super::*;
 use ooc_types::{Row, Text, Value};
 use std::alloc::{AllocError, Global};
+use std::marker::Brand;
+use std::sync::ledger::{Blank, Ledger};
 use std::test::Fail;
 
 fn value(alloc: Global, letter: u8) -> Result<Value, AllocError> {
@@ -66,4 +69,44 @@ fn bags_are_the_same_where_each_row_stands_equally_often(rt: HostRuntime) -> Res
         assert_eq!(rt; same_bag(&first, &second), *same, "{a:?} and {b:?}");
     }
     Ok(())
+}
+
+// Counts one step for each letter.
+fn count_letters<L: Ledger>(text: &[u8], steps: &mut Steps<L>)
+    ensures { steps.new ≡ steps.old + length text.now }
+{
+    for _letter in text {
+        steps.tick();
+    }
+}
+
+// Counts the letters of both texts, and answers how many bytes the count takes.
+fn count_both<L: Ledger>(blank: Blank, first: &[u8], second: &[u8]) -> usize
+    requires name { blank.name ≡ L.name }
+    requires parts { blank.parts ≡ L.parts }
+    requires some { 0 < blank.parts }
+{
+    let mut steps = Steps::<L>::new_steps(blank);
+    count_letters(first, &mut steps);
+    count_letters(second, &mut steps);
+    std::mem::size_of::<Steps<L>>()
+}
+
+#[test]
+fn a_count_of_steps_takes_no_bytes(rt: HostRuntime) -> Result<(), Fail> {
+    call_laws();
+    let bytes = count_both::<Brand>(Blank::new(1), b"abc".as_slice(), b"de".as_slice());
+    assert_eq!(rt; bytes, 0, "a count");
+    Ok(())
+}
+
+// Each generic law stands at some type.
+fn call_laws() {
+    same_bags_are_an_equivalence::<Row>();
+    bags_stay_the_same::<Row, Row>();
+    loops_stand_in_either_order::<Row, Row, Row>();
+    parts_make_the_whole::<Row, Row>();
+    same_bags_are_rearranged::<Row>();
+    folds_ignore_order::<Row, u64>();
+    each_row_stands_once();
 }
