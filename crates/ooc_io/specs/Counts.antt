@@ -1,5 +1,5 @@
 -- Counts of faults, which never fall, are kept as a u64 and stand still at its last value.
-use Rattle.std.specs.Prelude.{ℕ, ◌+◌, ◌-◌, ◌^◌, ◌<◌, ◌≤◌, ◌≡◌, min, Result, Ok, Err}
+use Rattle.std.specs.Prelude.{ℕ, ◌+◌, ◌-◌, ◌^◌, ◌<◌, ◌≤◌, ◌≡◌, min, Bool, true, false, Result, Ok, Err}
 
 -- one more, up to the last value of a u64
 abbrev pub raised : ℕ → ℕ
@@ -12,6 +12,11 @@ Rose before now = raised before ≤ now
 -- the count stayed as it was, below its last value
 abbrev pub Stayed : ℕ → ℕ → Type 0
 Stayed before now = (now ≡ before) × (before < 2 ^ 64 - 1)
+
+-- the count after a call that raises it where it fails, and else leaves it
+abbrev pub faults_after : Bool → ℕ → ℕ
+faults_after true before = raised before
+faults_after false before = before
 
 -- a call that may raise the count: an `Err` is answered only where it rose
 abbrev pub HasCause : {X E : Type 0} → ℕ → ℕ → Result X E → Type 0

@@ -1,5 +1,5 @@
 -- What the opening of a file tells, and its cause.
-use Rattle.std.specs.Prelude.{ℕ, ◌≤◌, ◌≡◌, List, Option, None, Some, Result, Ok, Err, ⊤}
+use Rattle.std.specs.Prelude.{ℕ, ◌≤◌, ◌≡◌, List, Option, None, Some, Bool, true, false, Result, Ok, Err, ⊤}
 use Rattle.std.specs.FinMap.{get}
 use Rattle.ooc_io.specs.Counts.{Rose}
 use Rattle.ooc_io.specs.Held.{Held}
@@ -18,3 +18,9 @@ abbrev pub HasOpenCause : {X : Type 0} → ℕ → ℕ → Result X OpenFault �
 HasOpenCause before now (Ok x) = before ≤ now
 HasOpenCause before now (Err Missing) = now ≡ before
 HasOpenCause before now (Err Failed) = (before ≤ now) × Rose before now
+
+-- the opening failed; a missing file is no failure
+abbrev pub is_failure : {X : Type 0} → Result X OpenFault → Bool
+is_failure (Ok x) = false
+is_failure (Err Missing) = false
+is_failure (Err Failed) = true

@@ -1,16 +1,18 @@
 //! Files in memory.
-ghost use Rattle.std.specs.Prelude.{◌≡◌, ◌≤◌, ◌<◌, ◌-◌, ◌↔◌, Some, None, IfOk, IfSome, IsErr, IsErrOf, MatchOption, drop, take, length, min, true, false, is_ok};
+ghost use Rattle.std.specs.Prelude.{◌≡◌, ◌≤◌, ◌<◌, ◌↔◌, Some, None, IfOk, OnErr, IfSome, is_err, IsErr, IsErrOf, MatchOption, map, take, length, min, true, false, is_ok};
 ghost use Rattle.std.specs.FinMap.{get};
 ghost use Rattle.std.specs.Io.KnownBytes.{ReadConsumes};
-ghost use Rattle.ooc_io.specs.Counts.{HasCause};
-ghost use Rattle.ooc_io.specs.Opens.{Opens, HasOpenCause};
+ghost use Rattle.ooc_io.specs.Counts.{HasCause, faults_after};
+ghost use Rattle.ooc_io.specs.Opens.{Opens, HasOpenCause, is_failure};
 ghost use Rattle.ooc_io.specs.Calls.{FailsNext, called};
-ghost use Rattle.ooc_io.specs.MemFiles.{held_by, bytes_at};
+ghost use Rattle.ooc_io.specs.MemForms.{held_in};
+ghost use Rattle.ooc_io.specs.MemFiles.{entry_of, held_by, bytes_at};
 ghost use Rattle.ooc_io.specs.declared.fault.OpenFault.TheVariants.{Failed};
 
 use crate::calls::Calls;
 use crate::fault::{FilesFailed, OpenFault};
 use crate::files::Files;
+use std::marker::Model;
 
 /// Files by name, whose listed calls fail. Of two with one name the first counts.
 #[derive(Drop)]
@@ -21,6 +23,16 @@ pub struct MemFiles {
     at: usize,
     faults: u64,
     calls: Calls,
+}
+
+impl Model for MemFiles {
+    ghost use Rattle.std.specs.Prelude.{map, drop};
+    ghost use Rattle.ooc_io.specs.MemForms.{FilesState};
+    ghost use Rattle.ooc_io.specs.MemFiles.{entry_of, bytes_at};
+
+    ghost Value = { FilesState };
+
+    ghost view = { λ f. record { named = map entry_of f.files.items; opened = f.opened; left = drop f.at (bytes_at f.files.items f.file); faults = f.faults; calls = f.calls } };
 }
 
 // The place of the first file of that name.
@@ -60,7 +72,7 @@ fn copy_some(from: &[u8], into: &mut [u8]) -> usize
 impl MemFiles {
     /// Files with these names and bytes. `failing` has the numbers, from 1, of the calls that are to fail.
     pub fn new_files(named: Vec<(String, Vec<u8>)>, failing: Vec<u64>) -> MemFiles
-        ensures holds { result.files.items ≡ named.items }
+        ensures named { result.named ≡ map entry_of named.items }
         ensures closed { result.opened ≡ false }
         ensures faults { result.faults ≡ 0 }
         ensures calls { result.calls ≡ record { failing = failing.items; count = 0 } }
@@ -84,21 +96,22 @@ impl MemFiles {
 }
 
 impl Files for MemFiles {
-    ghost holds = { λ f. Some (held_by f.files.items) };
+    ghost holds = { λ f. Some (held_in f) };
 
     ghost is_open = { λ f. f.opened };
 
-    ghost left = { λ f. Some (drop f.at (bytes_at f.files.items f.file)) };
+    ghost left = { λ f. Some f.left };
 
     ghost faults = { λ f. f.faults };
 
     // A name that isn't held is missing, also where the call is listed. Else the listed calls fail, and no others.
     fn open(&mut self, name: &str) -> Result<(), OpenFault>
-        ensures holds { Some (held_by self.new.files.items) ≡ Some (held_by self.old.files.items) }
+        ensures holds { Some (held_in self.new) ≡ Some (held_in self.old) }
+        ensures named { self.new.named ≡ self.old.named }
         ensures opened { self.new.opened ≡ is_ok result }
-        ensures told { Opens (Some (held_by self.old.files.items)) name.now result
-            (Some (drop self.new.at (bytes_at self.new.files.items self.new.file))) }
+        ensures told { Opens (Some (held_in self.old)) name.now result (Some self.new.left) }
         ensures cause { HasOpenCause self.old.faults self.new.faults result }
+        ensures faults { self.new.faults ≡ faults_after (is_failure result) self.old.faults }
         ensures failed { IsErrOf result Failed → FailsNext self.old.calls }
         ensures listed { FailsNext self.old.calls → IsErr result }
         ensures counted { self.new.calls ≡ called self.old.calls }
@@ -124,16 +137,17 @@ impl Files for MemFiles {
     fn read(&mut self, piece: &mut [u8]) -> Result<usize, FilesFailed>
         requires opened { self.old.opened ≡ true }
         requires room { 0 < length piece.old }
-        ensures holds { Some (held_by self.new.files.items) ≡ Some (held_by self.old.files.items) }
+        ensures holds { Some (held_in self.new) ≡ Some (held_in self.old) }
+        ensures named { self.new.named ≡ self.old.named }
         ensures opened { self.new.opened ≡ true }
         ensures bound { IfOk result (λ n. n ≤ length piece.new) }
-        ensures bytes { ReadConsumes (Some (drop self.old.at (bytes_at self.old.files.items self.old.file)))
-            (Some (drop self.new.at (bytes_at self.new.files.items self.new.file))) result piece.new }
+        ensures bytes { ReadConsumes (Some self.old.left) (Some self.new.left) result piece.new }
         ensures cause { HasCause self.old.faults self.new.faults result }
+        ensures faults { self.new.faults ≡ faults_after (is_err result) self.old.faults }
         ensures listed { IsErr result ↔ FailsNext self.old.calls }
         ensures counted { self.new.calls ≡ called self.old.calls }
-        ensures most { IfOk result (λ n. n ≡ min (length (bytes_at self.old.files.items self.old.file) - self.old.at)
-            (length piece.old)) }
+        ensures most { IfOk result (λ n. n ≡ min (length self.old.left) (length piece.old)) }
+        ensures refused { OnErr result (self.new.left ≡ self.old.left) }
     {
         if self.calls.fails() {
             self.faults = self.faults.saturating_add(1);

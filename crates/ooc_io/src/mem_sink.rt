@@ -1,13 +1,14 @@
 //! A sink in memory.
-ghost use Rattle.std.specs.Prelude.{◌≡◌, ◌+◌, ◌-◌, ◌≤◌, ◌<◌, ◌⊎◌, ◌↔◌, Some, IfOk, IsErr, [], length, min, vec_len, vec_capacity};
+ghost use Rattle.std.specs.Prelude.{◌≡◌, ◌-◌, ◌≤◌, ◌<◌, ◌⊎◌, ◌↔◌, Some, IfOk, OnErr, is_err, IsErr, [], length, min};
 ghost use Rattle.std.specs.Io.KnownBytes.{WriteAppends, Keeps};
-ghost use Rattle.ooc_io.specs.Counts.{HasExactCause};
+ghost use Rattle.ooc_io.specs.Counts.{HasExactCause, faults_after};
 ghost use Rattle.ooc_io.specs.Calls.{FailsNext, called};
 
 use crate::calls::Calls;
 use crate::fault::{OutOfMemory, WriteFailed};
 use crate::sink::Sink;
 use std::alloc::Global;
+use std::marker::Model;
 
 /// A sink with room for so many more bytes, whose listed calls fail.
 #[derive(Drop)]
@@ -16,14 +17,25 @@ pub struct MemSink {
     room: usize,
     faults: u64,
     calls: Calls,
-    ghost reserved: { vec_len bytes + room ≤ vec_capacity bytes },
+}
+
+impl Model for MemSink {
+    ghost use Rattle.std.specs.Prelude.{◌+◌, ◌≤◌, vec_len, vec_capacity};
+    ghost use Rattle.ooc_io.specs.MemForms.{SinkState};
+
+    ghost Value = { SinkState };
+
+    ghost view = { λ s. record { bytes = s.bytes.items; room = s.room; faults = s.faults; calls = s.calls } };
+
+    // The room is reserved.
+    ghost invariant = { λ s. vec_len s.bytes + s.room ≤ vec_capacity s.bytes };
 }
 
 impl MemSink {
     /// A sink with room for `room` bytes, which it takes now. `failing` has the numbers, from 1, of the calls that are
     /// to fail.
     pub fn new_sink(alloc: Global, failing: Vec<u64>, room: u32) -> Result<MemSink, OutOfMemory>
-        ensures empty { IfOk result (λ s. s.bytes.items ≡ []) }
+        ensures empty { IfOk result (λ s. s.bytes ≡ []) }
         ensures room { IfOk result (λ s. s.room ≡ room) }
         ensures faults { IfOk result (λ s. s.faults ≡ 0) }
         ensures calls { IfOk result (λ s. s.calls ≡ record { failing = failing.items; count = 0 }) }
@@ -38,7 +50,7 @@ impl MemSink {
 
     /// What the sink took.
     pub fn bytes(&self) -> &[u8]
-        ensures { result.now ≡ self.now.bytes.items }
+        ensures { result.now ≡ self.now.bytes }
     {
         self.bytes.as_slice()
     }
@@ -52,7 +64,7 @@ impl MemSink {
 }
 
 impl Sink for MemSink {
-    ghost written = { λ s. Some s.bytes.items };
+    ghost written = { λ s. Some s.bytes };
 
     ghost faults = { λ s. s.faults };
 
@@ -61,12 +73,14 @@ impl Sink for MemSink {
         requires { 0 < length piece.now }
         ensures some { IfOk result (λ n. 0 < n) }
         ensures bound { IfOk result (λ n. n ≤ length piece.now) }
-        ensures bytes { WriteAppends (Some self.old.bytes.items) (Some self.new.bytes.items) result piece.now }
+        ensures bytes { WriteAppends (Some self.old.bytes) (Some self.new.bytes) result piece.now }
         ensures cause { HasExactCause self.old.faults self.new.faults result }
+        ensures faults { self.new.faults ≡ faults_after (is_err result) self.old.faults }
         ensures listed { IsErr result ↔ (FailsNext self.old.calls ⊎ (self.old.room ≡ 0)) }
         ensures counted { self.new.calls ≡ called self.old.calls }
         ensures most { IfOk result (λ n. n ≡ min (length piece.now) self.old.room) }
         ensures room { IfOk result (λ n. self.new.room ≡ self.old.room - n) }
+        ensures refused { OnErr result ((self.new.bytes ≡ self.old.bytes) × (self.new.room ≡ self.old.room)) }
     {
         let taken = piece.len().min(self.room);
         if self.calls.fails() || taken == 0 {
@@ -80,10 +94,12 @@ impl Sink for MemSink {
 
     // The listed calls fail, and no others.
     fn flush(&mut self) -> Result<(), WriteFailed>
-        ensures bytes { Keeps (Some self.old.bytes.items) (Some self.new.bytes.items) }
+        ensures bytes { Keeps (Some self.old.bytes) (Some self.new.bytes) }
         ensures cause { HasExactCause self.old.faults self.new.faults result }
+        ensures faults { self.new.faults ≡ faults_after (is_err result) self.old.faults }
         ensures listed { IsErr result ↔ FailsNext self.old.calls }
         ensures counted { self.new.calls ≡ called self.old.calls }
+        ensures room { self.new.room ≡ self.old.room }
     {
         if self.calls.fails() {
             self.faults = self.faults.saturating_add(1);

@@ -69,6 +69,7 @@ fn a_lane_gives_back_what_it_was_given(rt: HostRuntime) -> Result<(), Fail> {
         Err(_) => assert!(rt; false, "the second write succeeds"),
     }
     assert_eq!(rt; lane.write_count(), 1);
+    assert_eq!(rt; lane.fault_count(), 2);
     assert_eq!(rt; Ticket::new_ticket(3, 7).place, 7);
     NoGate.at(0, GatePoint::Drew(1));
     Ok(())

@@ -59,7 +59,7 @@ impl Ticket {
     }
 
     /// A ticket that keeps a copy of the image.
-    pub fn keeping(
+    pub fn with_image(
         alloc: Global,
         lane: u32,
         place: u64,
