@@ -1,7 +1,20 @@
 -- What composite calls keep, one after the other.
-use Rattle.std.proofs.Common.{refl, ◌∙◌, arith}
+use Rattle.std.proofs.Common.{ℕ, ◌+◌, ◌-◌, ◌^◌, ◌<◌, ◌≤◌, refl, ◌∙◌, arith}
 use Rattle.page_body.specs.View.{PoolView}
-use Rattle.page_body.specs.Keeps.{Kept, SameHeld, Steady, LiveOn, ValidOn}
+use Rattle.page_body.specs.Keeps.{Counted, Kept, SameHeld, Steady, LiveOn, ValidOn}
+
+pub counted_same : (w k : ℕ) → Counted w w k k
+counted_same w k = record { writes = omega arith; wrote = omega arith; least = λ below. omega arith; most = λ below. omega arith }
+
+pub counted_then : (w v u k m n : ℕ) → Counted w v k m → Counted v u m n → Counted w u k n
+counted_then w v u k m n a b =
+    let aw = a.writes in let ak = a.wrote in let bw = b.writes in let bk = b.wrote in
+    record {
+      writes = omega (arith, aw, bw);
+      wrote = omega (arith, ak, bk);
+      least = λ below. let y = b.least below in let x = a.least (omega (arith, bw, below)) in omega (arith, x, y);
+      most = λ below. let y = b.most below in let x = a.most (omega (arith, bk, below)) in omega (arith, x, y);
+    }
 
 module _ {Page Pin : Type 0} where
   pub kept_same : (a : PoolView Page Pin) → Kept a a
@@ -11,8 +24,8 @@ module _ {Page Pin : Type 0} where
     held = refl;
     grant = refl;
     page_bytes = refl;
-    writes_at_open = refl;
-    writes = omega arith;
+    lane = refl;
+    counted = counted_same a.writes a.wrote;
     faults = omega arith;
     lives = λ p live. live;
     valid = λ q valid. valid;
@@ -25,8 +38,8 @@ module _ {Page Pin : Type 0} where
     held = second.held ∙ first.held;
     grant = second.grant ∙ first.grant;
     page_bytes = second.page_bytes ∙ first.page_bytes;
-    writes_at_open = second.writes_at_open ∙ first.writes_at_open;
-    writes = let x = first.writes in let y = second.writes in omega (arith, x, y);
+    counted = counted_then a.writes b.writes c.writes a.wrote b.wrote c.wrote first.counted second.counted;
+    lane = second.lane ∙ first.lane;
     faults = let x = first.faults in let y = second.faults in omega (arith, x, y);
     lives = λ p live. second.lives p (first.lives p live);
     valid = λ q valid. second.valid q (first.valid q valid);
@@ -40,8 +53,8 @@ module _ {Page Pin : Type 0} where
     held = held.held;
     grant = steady.grant;
     page_bytes = steady.page_bytes;
-    writes_at_open = steady.writes_at_open;
-    writes = steady.writes;
+    counted = steady.counted;
+    lane = steady.lane;
     faults = steady.faults;
     lives = lives;
     valid = valid;

@@ -18,12 +18,13 @@ use Rattle.page_body.specs.declared.mem_page.MemPage.{MemPage}
 use Rattle.page_body.specs.declared.mem_page.MemPin.{MemPin}
 use Rattle.page_body.specs.declared.slot.Slot.{Slot}
 use Rattle.page_body.specs.declared.slot.Slot.TheVariants.{Open, Sealed, Gone}
-use Rattle.page_body.specs.Keeps.{one_of, SameHeld, OnePin, OneOpen}
+use Rattle.number_bags.specs.Bags.{one_of}
+use Rattle.page_body.specs.Keeps.{SameHeld, OnePin, OneOpen}
 use Rattle.page_body.specs.Shows.{most_frames, Shows, IsBased}
 use Rattle.page_body.specs.Stands.{ImageStands}
 use Rattle.page_body.specs.Slots.{HasPage, pins_of, opens_of, uses_of, bytes_of, frame_of, with_pins, IsMoved, in_slot, pins_at, opens_at, frame_in, frame_at, kind_of, content_of, IsFrameOf, LiveIn, LiveAt, ValidIn, IsPin, slots_view}
 use Rattle.page_body.specs.SlotLaws.{both_used, all_among, pinned_in, mem_terms, pin_shows}
-use Rattle.page_body.proofs.Bags.{one_same, one_other}
+use Rattle.number_bags.proofs.Bags.{one_same, one_other}
 use Rattle.page_body.proofs.Places.{at_place, by_place, goes_on, by_push}
 
 -- what was read of a live page's slot

@@ -86,5 +86,14 @@ abbrev pub writes_for : Option Ticket → ℕ → ℕ
 writes_for (Some ticket) count = count
 writes_for None count = raised count
 
-abbrev pub writes_more : PageBody → ℕ → ℕ
-writes_more body count = writes_for (ticket_of body) count
+-- the count after a body was readied to rest: only a page that lives in a frame without a ticket is written
+abbrev pub writes_to_rest : PageBody → ℕ → ℕ
+writes_to_rest (Resident frame ticket) count = writes_for ticket count
+writes_to_rest (Resting ticket) count = count
+writes_to_rest (Dead frame) count = count
+
+-- a page that lives in a frame and was never written
+abbrev pub IsUnwritten : PageBody → Type 0
+IsUnwritten (Resident frame ticket) = ticket ≡ None
+IsUnwritten (Resting ticket) = ⊥
+IsUnwritten (Dead frame) = ⊥

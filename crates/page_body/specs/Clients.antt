@@ -4,7 +4,7 @@ use Rattle.row_image.specs.declared.layout.CellKind.{CellKind}
 use Rattle.row_image.specs.Image.{part_count, part_at, no_heap, stored_cell}
 use Rattle.row_image.specs.Texts.{TextValue, value_of}
 use Rattle.page_body.specs.View.{PoolTerms, PoolView}
-use Rattle.page_body.specs.Keeps.{one_of}
+use Rattle.number_bags.specs.Bags.{one_of}
 
 -- The texts of the pinned row page's first part lie where the pinned heap page is. It speaks of no state, so it stays
 -- whatever is called.

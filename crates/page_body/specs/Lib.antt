@@ -3,10 +3,12 @@ pub mod Lending
 pub mod Stands
 pub mod View
 pub mod Keeps
+pub mod PageLists
 pub mod Shows
 pub mod Refusals
 pub mod PageSize
 pub mod Slots
+pub mod ContentLength
 pub mod SlotLaws
 pub mod MemView
 pub mod Clients

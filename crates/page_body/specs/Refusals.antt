@@ -20,6 +20,12 @@ RoomFails before now Spill = Rose before now
 RoomFails before now (Damaged damage) = ⊥
 RoomFails before now OutOfMemory = ⊤
 
+-- an image was read into a frame that was there, which takes no memory
+abbrev pub LoadFails : Bool → ImageKind → ℕ → ℕ → ℕ → PoolFault → Type 0
+LoadFails told kind page_bytes before now Spill = Rose before now
+LoadFails told kind page_bytes before now (Damaged damage) = IsSpoilt told kind page_bytes damage
+LoadFails told kind page_bytes before now OutOfMemory = ⊥
+
 -- a page was read
 abbrev pub ReadFails : Bool → ImageKind → ℕ → ℕ → ℕ → PoolFault → Type 0
 ReadFails told kind page_bytes before now Spill = Rose before now

@@ -1,6 +1,6 @@
 -- The laws of a pool in memory.
 use Rattle.std.proofs.Common.{◌≡◌, ◌≢◌, ◌∙◌, ℕ, ◌+◌, ◌<◌, ◌≤◌, List, [], ◌∷◌, suc, zero, refl, sym, ap, subst, arith, Option, Some, None}
-use Rattle.std.specs.Prelude.{slice_get, length, true}
+use Rattle.std.specs.Prelude.{slice_get, length, true, false, IsTrue}
 use Rattle.std.specs.List.{sum_by}
 use Rattle.std.proofs.lemmas.List.Sums.{sum_by-cons}
 use Rattle.row_image.specs.declared.layout.CellKind.{CellKind}
@@ -14,6 +14,7 @@ use Rattle.evict_ring.specs.declared.frame.Frame.{Frame}
 use Rattle.page_body.specs.View.{PoolTerms}
 use Rattle.page_body.specs.Shows.{most_frames, Shows}
 use Rattle.page_body.specs.Stands.{ImageStands}
+use Rattle.page_body.specs.ContentLength.{stands_long}
 use Rattle.page_body.specs.Slots.{pins_of, opens_of, uses_of, in_slot, pins_at, opens_at, kind_of, content_of, IsFrameOf, LiveIn, LiveAt, ValidIn, IsPin}
 
 used_step : (s : Slot) (ss : List Slot) → sum_by uses_of (s ∷ ss) ≡ uses_of s + sum_by uses_of ss
@@ -75,8 +76,20 @@ pub pages_apart : (page_bytes : ℕ) (slots : List Slot) (p q : MemPage) (kinds 
 pages_apart page_bytes slots p q kinds v w rows heap same =
     two_kinds page_bytes p q kinds (slice_get slots p.at) v (subst (λ z. LiveIn page_bytes q (slice_get slots z)) same w) rows heap
 
+long_in : (page_bytes : ℕ) → 4096 ≤ page_bytes → (p : MemPage) (o : Option Slot) → LiveIn page_bytes p o → length (content_of p) ≡ page_bytes
+long_in page_bytes page p None v = absurd v
+long_in page_bytes page p (Some Open) v = absurd v
+long_in page_bytes page p (Some (Sealed frame pins seal)) v =
+    let least : 4096 ≤ length frame.bytes.items = subst (λ z. 4096 ≤ z) (sym v.long) page in
+    sym (stands_long true (kind_of p) (content_of p) frame.bytes.items v.stands refl least) ∙ v.long
+long_in page_bytes page p (Some Gone) v = absurd v
+
+-- a live page's content is as long as a page
+pub pages_long : (page_bytes : ℕ) → 4096 ≤ page_bytes → (slots : List Slot) (p : MemPage) → LiveAt page_bytes slots p → length (content_of p) ≡ page_bytes
+pages_long page_bytes page slots p v = long_in page_bytes page p (slice_get slots p.at) v
+
 abbrev pub mem_terms : PoolTerms MemPage MemPin
-mem_terms = record { told = true; ends_lives = true; id = λ p. p.at; kind = kind_of; content = content_of; under = λ q. q.page.value; image = λ q. q.frame.value.bytes.items; frame = λ q. q.frame.value.number }
+mem_terms = record { told = true; ends_lives = true; spills = false; id = λ p. p.at; kind = kind_of; content = content_of; under = λ q. q.page.value; image = λ q. q.frame.value.bytes.items; frame = λ q. q.frame.value.number }
 
 abbrev pub Shown : ℕ → MemPin → Type 0
 Shown page_bytes q = Shows mem_terms page_bytes q.page.value q
@@ -99,3 +112,7 @@ shows_in page_bytes q (Some Gone) v = absurd v
 -- a pin shows its page
 pub pin_shows : (page_bytes : ℕ) (slots : List Slot) (q : MemPin) → IsPin page_bytes slots q → Shown page_bytes q
 pin_shows page_bytes slots q v = shows_in page_bytes q (slice_get slots q.page.value.at) v
+
+-- it spills nothing
+pub never : {A : Type 0} → IsTrue false → A
+never k = absurd (cc k)

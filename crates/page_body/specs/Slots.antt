@@ -133,6 +133,7 @@ slots_view page_bytes grant held slots = record {
   grant = grant;
   page_bytes = page_bytes;
   faults = 0;
+  lane = 0;
   writes = 0;
-  writes_at_open = 0;
+  wrote = 0;
 }

@@ -1,6 +1,6 @@
 -- When an image, a ticket and a body stand for a content. A content is what a page says wherever its heap pages lie.
 -- A pool is told where its lanes tell what their tickets hold; no code can read whether it is.
-use Rattle.std.specs.Prelude.{◌≡◌, ℕ, Bool, IsTrue, List, Option, Some, None, ⊤, IfSome}
+use Rattle.std.specs.Prelude.{◌≡◌, ℕ, Bool, IsTrue, List, Option, Some, None, ⊤, IfSome, length}
 use Rattle.ooc_io.specs.declared.ticket.Ticket.{Ticket}
 use Rattle.row_image.specs.declared.image.ImageKind.{ImageKind}
 use Rattle.row_image.specs.Rules.{IsAccepted}
@@ -13,10 +13,10 @@ pub record ImageStands (told : Bool) (kind : ImageKind) (content image : List �
   pub accepted : IsAccepted kind image
   pub same : IsTrue told → flat kind image ≡ content
 
--- in a told pool a ticket keeps an image that stands for the content
+-- in a told pool a ticket keeps an image that stands for the content and is as long
 abbrev pub KeptStands : Bool → ImageKind → List ℕ → Option (List ℕ) → Type 0
 KeptStands told kind content None = ⊥
-KeptStands told kind content (Some image) = ImageStands told kind content image
+KeptStands told kind content (Some image) = ImageStands told kind content image × (length image ≡ length content)
 
 abbrev pub TicketStands : Bool → ImageKind → List ℕ → Ticket → Type 0
 TicketStands told kind content ticket = IsTrue told → KeptStands told kind content ticket.kept

@@ -8,6 +8,8 @@ pub record PoolTerms (Page Pin : Type 0) : Type 0 where
   pub told : Bool
   -- a page that is retired isn't live any more; a truth that belongs to the type
   pub ends_lives : Bool
+  -- of live pages that differ, those that no frame can hold were written by this pool
+  pub spills : Bool
   -- where retiring ends lives, live pages that differ have different numbers
   pub id : Page → ℕ
   pub kind : Page → ImageKind
@@ -31,7 +33,9 @@ pub record PoolView (Page Pin : Type 0) : Type 1 where
   pub held : ℕ
   pub grant : ℕ
   pub page_bytes : ℕ
-  -- the faults and the successful writes of this worker's lane, and what the writes were when the pool was opened
+  -- which lane this worker has, and how many faults and successful writes that counts
+  pub lane : ℕ
   pub faults : ℕ
   pub writes : ℕ
-  pub writes_at_open : ℕ
+  -- how many of them were this pool's
+  pub wrote : ℕ

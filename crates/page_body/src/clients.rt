@@ -119,7 +119,7 @@ pub fn pin_rows<P: Pages>(
     requires heap { (P.view pages.old).live heap.now }
     requires kind { P.terms.kind rows.now ≡ Rows layout.now }
     requires heap_kind { P.terms.kind heap.now ≡ Heap }
-    requires alone { (P.view pages.old).pins (P.terms.id rows.now) ≡ 0 }
+    requires alone { IsTrue P.terms.ends_lives → (P.view pages.old).pins (P.terms.id rows.now) ≡ 0 }
     requires room { (P.view pages.old).held + 2 ≤ (P.view pages.old).grant }
     ensures rows_pinned { IfOk result (λ pins. P.terms.under pins.rows ≡ rows.now) }
     ensures heap_pinned { IfOk result (λ pins. P.terms.under pins.heap ≡ heap.now) }

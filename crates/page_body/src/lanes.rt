@@ -4,9 +4,9 @@ ghost use Rattle.ooc_io.specs.Counts.{HasCause};
 ghost use Rattle.row_image.specs.Bytes.{IsPage};
 ghost use Rattle.row_image.specs.Rules.{IsAccepted};
 ghost use Rattle.row_image.specs.declared.image.ImageKind.{ImageKind};
-ghost use Rattle.page_body.specs.Bodies.{IsResident, CanRest, image_of, writes_more};
+ghost use Rattle.page_body.specs.Bodies.{CanRest, IsUnwritten, frame_of, image_of, writes_to_rest};
 ghost use Rattle.page_body.specs.Stands.{StandsFor, ImageStands, TicketStands};
-ghost use Rattle.page_body.specs.Refusals.{ReadFails, RoomFails};
+ghost use Rattle.page_body.specs.Refusals.{LoadFails, RoomFails};
 
 use crate::body::PageBody;
 use crate::fault::PoolFault;
@@ -14,18 +14,22 @@ use evict_ring::Frame;
 use ooc_io::{LaneFault, SpillFailed, SpillLane, Ticket};
 use row_image::{ImageKind, check_image};
 
-/// Writes a resident page's image to a lane, if the page has no ticket. The answer is what `PageBody::rest` is to be
-/// given. So a page is written once, however often it rests.
-pub fn written<L: SpillLane>(lane: &mut L, body: &PageBody) -> Result<Option<Ticket>, PoolFault>
-    requires { IsResident body.now }
+/// Readies a body with a frame to rest: a page that lives without a ticket is written to a lane, and the answer is what
+/// `PageBody::rest` is to be given. So a page is written once, however often it rests, and a dead one never. It is refused
+/// only where it writes.
+pub fn ticket_for<L: SpillLane>(lane: &mut L, body: &PageBody) -> Result<Option<Ticket>, PoolFault>
+    requires frame { IsSome (frame_of body.now) }
+    requires page { IfSome (frame_of body.now) (λ frame. IsPage (length frame.bytes.items)) }
     ensures ready { IfOk result (CanRest body.now) }
     ensures stands { IfOk result (λ given. (kind : ImageKind) (content : List ℕ) → StandsFor L.Mark.tells kind content body.now → IfSome given (TicketStands L.Mark.tells kind content)) }
     ensures keeps { IsTrue L.Mark.tells → IfOk result (λ given. IfSome given (λ ticket. ticket.kept ≡ Some (image_of body.now))) }
-    ensures writes { OnOk result (L.writes lane.new ≡ writes_more body.now (L.writes lane.old)) }
+    ensures writes { OnOk result (L.writes lane.new ≡ writes_to_rest body.now (L.writes lane.old)) }
     ensures unwritten { OnErr result (L.writes lane.new ≡ L.writes lane.old) }
     ensures later { L.writes lane.old ≤ L.writes lane.new }
     ensures faults { L.faults lane.old ≤ L.faults lane.new }
     ensures cause { IfErr result (RoomFails (L.faults lane.old) (L.faults lane.new)) }
+    ensures refused { OnErr result (IsUnwritten body.now) }
+    ensures idle { (IsUnwritten body.now → ⊥) → L.faults lane.new ≡ L.faults lane.old }
 {
     match body {
         PageBody::Resident {
@@ -58,7 +62,7 @@ fn read_into<L: SpillLane>(
 }
 
 /// Reads a resting page's image into a frame, and tests it by the rules of the page's kind. Where it answers Ok the frame
-/// has an image of each content that the ticket stands for, so it may be installed.
+/// has an image of each content that the ticket stands for, so it may be installed. It takes no memory.
 pub fn load_from<L: SpillLane>(
     lane: &mut L,
     ticket: &Ticket,
@@ -74,7 +78,7 @@ pub fn load_from<L: SpillLane>(
     ensures stands { OnOk result ((content : List ℕ) → TicketStands L.Mark.tells kind.now content ticket.now → ImageStands L.Mark.tells kind.now content frame.new.bytes.items) }
     ensures writes { L.writes lane.new ≡ L.writes lane.old }
     ensures faults { L.faults lane.old ≤ L.faults lane.new }
-    ensures cause { IfErr result (ReadFails L.Mark.tells kind.now (length frame.old.bytes.items) (L.faults lane.old) (L.faults lane.new)) }
+    ensures cause { IfErr result (LoadFails L.Mark.tells kind.now (length frame.old.bytes.items) (L.faults lane.old) (L.faults lane.new)) }
 {
     if read_into(lane, ticket, frame).is_err() {
         return Err(PoolFault::Spill);

@@ -16,7 +16,7 @@ mod slot;
 pub use base::base_of;
 pub use body::PageBody;
 pub use fault::PoolFault;
-pub use lanes::{load_from, written};
+pub use lanes::{load_from, ticket_for};
 pub use mem_page::{MemPage, MemPin};
 pub use mem_pages::MemPages;
 pub use open::OpenPage;

@@ -36,7 +36,7 @@ pub struct MemPages {
     ghost total: { held ≡ sum_by uses_of slots.items },
 }
 
-fn zeroed(alloc: Global, count: usize) -> Result<Vec<u8>, AllocError>
+fn zero_bytes(alloc: Global, count: usize) -> Result<Vec<u8>, AllocError>
     ensures { IfOk result (λ bytes. length bytes.items ≡ count) }
 {
     vec![in alloc; 0; count]
@@ -51,7 +51,7 @@ impl MemPages {
     pub fn new_pages(alloc: Global, page: u32, grant: u32) -> MemPages
         requires page { IsPage page }
         requires least { 24 ≤ grant }
-        requires most { grant ≤ 16777216 }
+        requires most { grant ≤ most_frames }
         ensures page { (mem_view result).page_bytes ≡ page }
         ensures grant { (mem_view result).grant ≡ grant }
         ensures held { (mem_view result).held ≡ 0 }
@@ -66,7 +66,7 @@ impl MemPages {
     }
 
     // A pin of a page, which was counted.
-    fn seen(&self, page: &MemPage) -> MemPin
+    fn pin_of(&self, page: &MemPage) -> MemPin
         requires { IsSome (frame_at self.now.slots.items page.now.at) }
         ensures page { result.page.value ≡ page.now }
         ensures frame { frame_at self.now.slots.items page.now.at ≡ Some result.frame.value }
@@ -82,9 +82,16 @@ impl MemPages {
 
 impl Pages for MemPages {
     ghost use Rattle.std.proofs.Common.{sym, subst, ◌+◌};
+    ghost use Rattle.std.specs.Prelude.{◌≢◌, ◌<◌, IsTrue, IsOk, IfErr, OnOk, OnErr};
+    ghost use Rattle.row_image.specs.Flat.{flat};
+    ghost use Rattle.row_image.specs.Rules.{IsAccepted};
+    ghost use Rattle.row_image.specs.declared.image.ImageKind.TheVariants.{Rows, Plain};
+    ghost use Rattle.page_body.specs.Keeps.{Steady, SameHeld, OnePin, OneOpen, LiveOn, ValidOn};
+    ghost use Rattle.page_body.specs.Shows.{IsOpen, Shows, IsNew, AreBases, IsBased};
+    ghost use Rattle.page_body.specs.Refusals.{ReadFails};
     ghost use Rattle.page_body.specs.Slots.{pins_at, opens_at};
     ghost use Rattle.page_body.specs.MemView.{mem_view};
-    ghost use Rattle.page_body.specs.SlotLaws.{mem_terms, all_among, pin_counts, pin_lives, pin_shows, pages_apart};
+    ghost use Rattle.page_body.specs.SlotLaws.{mem_terms, all_among, pin_counts, pin_lives, pin_shows, pages_apart, pages_long, never};
 
     type Page = MemPage;
 
@@ -111,7 +118,7 @@ impl Pages for MemPages {
             return Err(PoolFault::OutOfMemory);
         }
         let number = self.slots.len() as u32;
-        let bytes = zeroed(self.alloc, self.page as usize)?;
+        let bytes = zero_bytes(self.alloc, self.page as usize)?;
         self.slots.push(Slot::Open)?;
         self.held += 1;
         Ok(OpenPage {
@@ -133,7 +140,22 @@ impl Pages for MemPages {
         self.held -= 1;
     }
 
-    fn seal(&mut self, page: OpenPage) -> Result<MemPage, (OpenPage, OutOfMemory)> {
+    // It isn't refused.
+    fn seal(&mut self, page: OpenPage) -> Result<MemPage, (OpenPage, OutOfMemory)>
+        requires own { IsOpen (mem_view self.old) page }
+        requires accepted { IsAccepted page.kind page.frame.bytes.items }
+        requires sealable { page.kind ≢ Plain }
+        ensures new { IfOk result (IsNew mem_terms (mem_view self.old) (mem_view self.new)) }
+        ensures kind { IfOk result (λ sealed. mem_terms.kind sealed ≡ page.kind) }
+        ensures content { IfOk result (λ sealed. mem_terms.content sealed ≡ flat page.kind page.frame.bytes.items) }
+        ensures counted { OnOk result (OneOpen page.frame.number (mem_view self.new) (mem_view self.old)) }
+        ensures back { IfErr result (λ e. e.0 ≡ page) }
+        ensures refused { OnErr result (SameHeld (mem_view self.old) (mem_view self.new)) }
+        ensures steady { Steady (mem_view self.old) (mem_view self.new) }
+        ensures lives { LiveOn (mem_view self.old) (mem_view self.new) }
+        ensures pins { ValidOn (mem_view self.old) (mem_view self.new) }
+        ensures sure { IsOk result }
+    {
         let sealed = MemPage {
             at: page.frame.number,
             seal: Snapshot::of(&page),
@@ -149,21 +171,51 @@ impl Pages for MemPages {
         Ok(sealed)
     }
 
-    fn pin(&mut self, page: &MemPage) -> Result<MemPin, PoolFault> {
+    // It isn't refused.
+    fn pin(&mut self, page: &MemPage) -> Result<MemPin, PoolFault>
+        requires live { (mem_view self.old).live page.now }
+        requires room { (mem_view self.old).held < (mem_view self.old).grant }
+        ensures valid { IfOk result (mem_view self.new).valid }
+        ensures shows { IfOk result (Shows mem_terms (mem_view self.old).page_bytes page.now) }
+        ensures counted { OnOk result (OnePin (mem_terms.id page.now) (mem_view self.old) (mem_view self.new)) }
+        ensures refused { OnErr result (SameHeld (mem_view self.old) (mem_view self.new)) }
+        ensures cause { IfErr result (ReadFails mem_terms.told (mem_terms.kind page.now) (mem_view self.old).page_bytes (mem_view self.old).faults (mem_view self.new).faults) }
+        ensures steady { Steady (mem_view self.old) (mem_view self.new) }
+        ensures lives { LiveOn (mem_view self.old) (mem_view self.new) }
+        ensures pins { ValidOn (mem_view self.old) (mem_view self.new) }
+        ensures sure { IsOk result }
+    {
         self.slots[page.at as usize].hold();
         self.held += 1;
-        Ok(self.seen(page))
+        Ok(self.pin_of(page))
     }
 
+    // It isn't refused.
     fn pin_based(
         &mut self,
         page: &MemPage,
         layout: &Layout,
         bases: &[u64],
-    ) -> Result<MemPin, PoolFault> {
+    ) -> Result<MemPin, PoolFault>
+        requires live { (mem_view self.old).live page.now }
+        requires kind { mem_terms.kind page.now ≡ Rows layout.now }
+        requires alone { IsTrue mem_terms.ends_lives → (mem_view self.old).pins (mem_terms.id page.now) ≡ 0 }
+        requires room { (mem_view self.old).held < (mem_view self.old).grant }
+        requires bases { AreBases (mem_view self.old).page_bytes bases.now }
+        ensures valid { IfOk result (mem_view self.new).valid }
+        ensures shows { IfOk result (Shows mem_terms (mem_view self.old).page_bytes page.now) }
+        ensures based { IfOk result (λ pin. IsBased (mem_terms.image pin) bases.now) }
+        ensures counted { OnOk result (OnePin (mem_terms.id page.now) (mem_view self.old) (mem_view self.new)) }
+        ensures refused { OnErr result (SameHeld (mem_view self.old) (mem_view self.new)) }
+        ensures cause { IfErr result (ReadFails mem_terms.told (mem_terms.kind page.now) (mem_view self.old).page_bytes (mem_view self.old).faults (mem_view self.new).faults) }
+        ensures steady { Steady (mem_view self.old) (mem_view self.new) }
+        ensures lives { LiveOn (mem_view self.old) (mem_view self.new) }
+        ensures pins { ValidOn (mem_view self.old) (mem_view self.new) }
+        ensures sure { IsOk result }
+    {
         self.slots[page.at as usize].hold_at(layout, bases);
         self.held += 1;
-        Ok(self.seen(page))
+        Ok(self.pin_of(page))
     }
 
     fn unpin(&mut self, pin: MemPin) {
@@ -197,5 +249,9 @@ impl Pages for MemPages {
 
     ghost shown = { λ s q v. pin_shows s.page s.slots.items q v };
 
-    ghost apart = { λ s p q kinds v w rows heap. pages_apart s.page s.slots.items p q kinds v w rows heap };
+    ghost apart = { λ s p q kinds _ v w rows heap. pages_apart s.page s.slots.items p q kinds v w rows heap };
+
+    ghost long = { λ s p v. pages_long s.page s.page_fits.least s.slots.items p v };
+
+    ghost written = { λ s spills. never spills };
 }

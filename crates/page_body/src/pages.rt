@@ -11,7 +11,7 @@ use row_image::{ImageKind, Layout};
 /// kind and content, and the bytes and the frame under a pin, never change, so contracts see them as functions of the
 /// page and of the pin alone. What calls change is the worker's view: which pages are live, and its pins and open pages.
 pub trait Pages {
-    ghost use Rattle.std.specs.Prelude.{◌≡◌, ◌≢◌, ℕ, ◌+◌, ◌<◌, ◌≤◌, IsTrue, IfOk, IfErr, OnErr, OnOk, List};
+    ghost use Rattle.std.specs.Prelude.{◌≡◌, ◌≢◌, ℕ, ◌+◌, ◌<◌, ◌≤◌, IsTrue, IfOk, IfErr, OnErr, OnOk, List, length};
     ghost use Rattle.row_image.specs.Bytes.{IsPage};
     ghost use Rattle.row_image.specs.Flat.{flat};
     ghost use Rattle.row_image.specs.Rules.{IsAccepted};
@@ -21,6 +21,7 @@ pub trait Pages {
     ghost use Rattle.page_body.specs.Keeps.{Steady, SameHeld, OnePin, OneOpen, LiveOn, OthersLiveOn, ValidOn, PinnedOn};
     ghost use Rattle.page_body.specs.Shows.{most_frames, IsOpen, Shows, IsNew, AreBases, IsBased};
     ghost use Rattle.page_body.specs.Refusals.{ReadFails, RoomFails};
+    ghost use Rattle.page_body.specs.PageLists.{WereWritten};
 
     /// A reference to a sealed page.
     type Page;
@@ -113,7 +114,8 @@ pub trait Pages {
         ensures pins { ValidOn (view self.old) (view self.new) };
 
     /// Pins a row page whose heap pages lie at these bases, one for each part that it may have: where a part has another
-    /// base, its texts are moved first. This worker has no pin on the page.
+    /// base, its texts are moved first. Where retiring ends lives, this worker has no pin on the page; elsewhere the call
+    /// waits until no worker has.
     fn pin_based(
         &mut self,
         page: &Self::Page,
@@ -122,7 +124,7 @@ pub trait Pages {
     ) -> Result<Self::Pin, PoolFault>
         requires live { (view self.old).live page.now }
         requires kind { terms.kind page.now ≡ Rows layout.now }
-        requires alone { (view self.old).pins (terms.id page.now) ≡ 0 }
+        requires alone { IsTrue terms.ends_lives → (view self.old).pins (terms.id page.now) ≡ 0 }
         requires room { (view self.old).held < (view self.old).grant }
         requires bases { AreBases (view self.old).page_bytes bases.now }
         ensures valid { IfOk result (view self.new).valid }
@@ -182,6 +184,12 @@ pub trait Pages {
     /// A pin of this worker shows its page.
     ghost shown: { (s : Self) (q : Self.Pin) → (view s).valid q → Shows terms (view s).page_bytes (terms.under q) q };
 
-    /// A row page and a heap page differ.
-    ghost apart: { (s : Self) (p q : Self.Page) (kinds : List CellKind) → (view s).live p → (view s).live q → terms.kind p ≡ Rows kinds → terms.kind q ≡ Heap → terms.id q ≢ terms.id p };
+    /// A live page's content is as long as a page.
+    ghost long: { (s : Self) (p : Self.Page) → (view s).live p → length (terms.content p) ≡ (view s).page_bytes };
+
+    /// Where retiring ends lives, a row page and a heap page differ.
+    ghost apart: { (s : Self) (p q : Self.Page) (kinds : List CellKind) → IsTrue terms.ends_lives → (view s).live p → (view s).live q → terms.kind p ≡ Rows kinds → terms.kind q ≡ Heap → terms.id q ≢ terms.id p };
+
+    /// Where the pool spills, of any live pages that differ at most as many as it has frames weren't written.
+    ghost written: { (s : Self) → IsTrue terms.spills → WereWritten terms (view s) };
 }

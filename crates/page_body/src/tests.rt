@@ -109,7 +109,8 @@ fn copy_text<P: Pages>(
     requires heap { (P.view pages.old).live heap.now }
     requires kind { P.terms.kind rows.now ≡ Rows layout.now }
     requires heap_kind { P.terms.kind heap.now ≡ Heap }
-    requires alone { (P.view pages.old).pins (P.terms.id rows.now) ≡ 0 }
+    requires ends { IsTrue P.terms.ends_lives }
+    requires alone { IsTrue P.terms.ends_lives → (P.view pages.old).pins (P.terms.id rows.now) ≡ 0 }
     requires room { (P.view pages.old).held + 2 ≤ (P.view pages.old).grant }
     requires column { column < length layout.now }
     ensures text { IsTrue P.terms.told → IfOk result (λ found. IsTrue found → IsTextOf P.terms layout.now rows.now heap.now row column into.new) }
@@ -210,7 +211,7 @@ fn there_and_back<L: SpillLane>(
         frame,
         ticket: None,
     };
-    let given = written(lane, &body)?;
+    let given = ticket_for(lane, &body)?;
     let mut frame = body.rest(given);
     match &body {
         PageBody::Resting { ticket } => load_from(lane, ticket, kind, &mut frame)?,

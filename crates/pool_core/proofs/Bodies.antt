@@ -1,5 +1,5 @@
 -- A page's body keeps its frame and stands for its content, after each change.
-use Rattle.std.proofs.Common.{◌≡◌, ℕ, List, length, true, Option, Some, None, refl, sym, ap, subst, ◌∙◌}
+use Rattle.std.proofs.Common.{◌≡◌, ℕ, ◌≤◌, List, length, true, Option, Some, None, refl, sym, ap, subst, ◌∙◌}
 use Rattle.std.specs.Prelude.{IfSome}
 use Rattle.std.specs.Option.{ForSome}
 use Rattle.std.proofs.lemmas.List.{with_items_is}
@@ -13,6 +13,7 @@ use Rattle.page_body.specs.declared.body.PageBody.{PageBody}
 use Rattle.page_body.specs.declared.body.PageBody.TheVariants.{Resident, Resting, Dead}
 use Rattle.page_body.specs.Bodies.{IsResident, frame_of, image_of, ticket_of, installed, rested, killed, IsRebased}
 use Rattle.page_body.specs.Stands.{StandsFor, ImageStands, KeptStands, TicketStands}
+use Rattle.page_body.specs.ContentLength.{stands_long}
 use Rattle.pool_core.specs.Effects.{given_ticket, keeping, kept_of, Rebases}
 use Rattle.pool_core.specs.Sound.{HasFrame}
 use Rattle.pool_core.proofs.Frames.{KeepsFrame}
@@ -78,12 +79,15 @@ given_kept bytes page image long t e kept has =
     let is : image ≡ kept = cc in
     subst P is long
 
-pub rested_stands : (bytes page : ℕ) (kind : ImageKind) (content : List ℕ) (body : PageBody) → BodyStands bytes kind content body → (IsResident body → length (image_of body) ≡ bytes)
+pub rested_stands : (bytes page : ℕ) (kind : ImageKind) (content : List ℕ) (body : PageBody) → 4096 ≤ bytes → BodyStands bytes kind content body → (IsResident body → length (image_of body) ≡ bytes)
     → BodyStands bytes kind content (rested body (given_ticket page body))
-rested_stands bytes page kind content (Resident f (Some ticket)) s long = record { stands = s.stands.1; kept = s.kept }
-rested_stands bytes page kind content (Resident f None) s long = record { stands = λ told. s.stands.0; kept = given_kept bytes page f.bytes.items (long tt) }
-rested_stands bytes page kind content (Resting ticket) s long = s
-rested_stands bytes page kind content (Dead f) s long = record { stands = tt; kept = λ t e. absurd (let h : ⊥ = cc in h) }
+rested_stands bytes page kind content (Resident f (Some ticket)) least s long = record { stands = s.stands.1; kept = s.kept }
+rested_stands bytes page kind content (Resident f None) least s long = record {
+  stands = λ told. (s.stands.0, stands_long true kind content f.bytes.items s.stands.0 told (subst (λ n. 4096 ≤ n) (sym (long tt)) least));
+  kept = given_kept bytes page f.bytes.items (long tt);
+}
+rested_stands bytes page kind content (Resting ticket) least s long = s
+rested_stands bytes page kind content (Dead f) least s long = record { stands = tt; kept = λ t e. absurd (let h : ⊥ = cc in h) }
 
 pub rested_frame : (page : ℕ) (body : PageBody) → frame_of (rested body (given_ticket page body)) ≡ None
 rested_frame page (Resident f (Some ticket)) = refl
@@ -101,8 +105,8 @@ installed_stands bytes kind content (Resident old ticket) f image s e long = abs
 installed_stands bytes kind content (Resting ticket) f image s e long =
     let K : Option (List ℕ) → Type 0 = λ kept. KeptStands true kind content kept in
     let I : List ℕ → Type 0 = λ image. ImageStands true kind content image in
-    let mine : ImageStands true kind content image = subst K e (s.stands refl) in
-    record { stands = (subst I (sym (framed f image long)) mine, s.stands); kept = s.kept }
+    let mine : KeptStands true kind content (Some image) = subst K e (s.stands refl) in
+    record { stands = (subst I (sym (framed f image long)) mine.0, s.stands); kept = s.kept }
 installed_stands bytes kind content (Dead frame) f image s e long = absurd (let h : ⊥ = cc in h)
 
 pub installed_frame : (body : PageBody) (f : Frame) (image : List ℕ) → kept_of body ≡ Some image → frame_of (installed body f) ≡ Some f

@@ -73,7 +73,7 @@ rest_sound s sound page actor p t f e writer has there =
       turns = turns_taken s.page s.turns turns s.pages pages page t p p' f sound.turns sound.pages there turn_put e has page_put;
       pages = pages_taken s.page s.turns turns s.pages pages page t p p' f sound.pages there turn_put e has page_put (rested_frame page p.body);
       stand = stand_kept s.page s.pages pages page p' page_put sound.stand
-          (stands_put s.page p body h (rested_stands s.page page p.kind (content_of p) p.body old (λ resident. (whole s sound page p e resident).0)));
+          (stands_put s.page p body h (rested_stands s.page page p.kind (content_of p) p.body sound.page.least old (λ resident. (whole s sound page p e resident).0)));
       heaps = heaps_kept s.pages pages page p body p.readers None e page_put sound.heaps;
       marks = marks_kept s.page s.pages pages s.marks sound.marks (unread_stays s.pages pages page p' page_put (unread_of s.page actor s.pages page p sound.stand e writer));
     }

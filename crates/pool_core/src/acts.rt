@@ -148,7 +148,7 @@ fn given_ticket(alloc: Global, page: u64, body: &PageBody) -> Result<Option<Tick
         PageBody::Resident {
             frame,
             ticket: None,
-        } => Ok(Some(Ticket::keeping(alloc, 0, page, &frame.bytes)?)),
+        } => Ok(Some(Ticket::with_image(alloc, 0, page, &frame.bytes)?)),
         _ => Ok(None),
     }
 }

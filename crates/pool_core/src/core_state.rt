@@ -13,13 +13,16 @@ use crate::{enabled, opening, step};
 use ooc_io::OutOfMemory;
 use std::alloc::Global;
 use std::marker::Model;
+use thiserror::Error;
 
 /// Why a list of events stopped.
-#[derive(Clone, Copy, Debug, PartialEq, Eq)]
+#[derive(Clone, Copy, Debug, PartialEq, Eq, Error)]
 pub enum CoreStop {
     /// The event at this place, from 0, isn't enabled. Those before it have acted.
+    #[error("event {0} isn't enabled")]
     NotEnabled(u64),
     /// Memory ran out. Some of the events have acted.
+    #[error("out of memory")]
     OutOfMemory,
 }
 

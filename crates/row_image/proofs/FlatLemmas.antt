@@ -1,5 +1,5 @@
 -- A page one of whose heap pages moved says the same.
-use Rattle.std.proofs.Common.{◌≡◌, ◌≢◌, ℕ, ◌+◌, ◌-◌, ◌%◌, ◌^◌, ◌<◌, ◌≤◌, true, cond, ltb, List, ◌++◌, length, get_or, take, drop, replicate, sym, ap, ◌∙◌, arith, inl, inr}
+use Rattle.std.proofs.Common.{◌≡◌, ◌≢◌, ℕ, ◌+◌, ◌-◌, ◌%◌, ◌^◌, ◌<◌, ◌≤◌, true, cond, ltb, List, ◌++◌, length, get_or, take, drop, replicate, refl, sym, ap, ◌∙◌, arith, inl, inr}
 use Rattle.std.specs.Prelude.{slice_index, slice_range}
 use Rattle.std.specs.List.{range_with_len, flat_map}
 use Rattle.std.proofs.lemmas.Bool.{lt-ltb, cases_lt, cases_Bool}
@@ -7,7 +7,7 @@ use Rattle.std.proofs.lemmas.Grind.{same_number_lists}
 use Rattle.std.proofs.lemmas.List.{length-drop, get_or-drop}
 use Rattle.row_image.specs.declared.layout.CellKind.{CellKind}
 use Rattle.row_image.specs.declared.layout.CellKind.TheVariants.{Bit}
-use Rattle.row_image.specs.declared.image.ImageKind.TheVariants.{Rows}
+use Rattle.row_image.specs.declared.image.ImageKind.TheVariants.{Rows, Heap}
 use Rattle.row_image.specs.Bytes.{number_at, number_bytes}
 use Rattle.row_image.specs.Layout.{cell_width, mask_bytes, offset_of, width_of, row_place}
 use Rattle.row_image.specs.Image.{row_count, part_count, part_at, part_for, part_place, no_heap}
@@ -130,3 +130,8 @@ rebased_flat kinds old new part to r accepted page inside heap aligned low =
     ∙ ap (λ m. take 32 old ++ flat_map (λ k. flat_part old k) (range_with_len 0 4) ++ flat_map (λ row. flat_row kinds new row) (range_with_len 0 m) ++ drop (row_place kinds m) new) counts.0
     ∙ ap (λ xs. take 32 old ++ flat_map (λ k. flat_part old k) (range_with_len 0 4) ++ xs ++ drop (row_place kinds n) new) rows
     ∙ ap (λ xs. take 32 old ++ flat_map (λ k. flat_part old k) (range_with_len 0 4) ++ flat_map (λ row. flat_row kinds old row) (range_with_len 0 n) ++ xs) rest
+
+-- a heap page says the same wherever it lies
+pub heap_flat : (image : List ℕ) → flat Heap image ≡ image
+unfolding flat
+heap_flat image = refl

@@ -5,6 +5,7 @@ pub mod AcceptedLemmas
 pub mod StoreLemmas
 pub mod ListLemmas
 pub mod PartLemmas
+pub mod EntryLemmas
 pub mod PartFacts
 pub mod CellRuleLemmas
 pub mod GrownLemmas
@@ -22,4 +23,6 @@ pub mod PageLemmas
 pub mod Laws
 pub mod FlatParts
 pub mod WrittenTexts
+pub mod FitLemmas
+pub mod WrittenHidden
 pub mod Followed

@@ -1,5 +1,5 @@
 -- A row more, with texts as values.
-use Rattle.std.proofs.Common.{◌≡◌, ◌≢◌, ℕ, ◌+◌, ◌*◌, ◌-◌, ◌<◌, ◌≤◌, Bool, true, false, List, [], ◌∷◌, ◌++◌, length, get_or, map, Option, Some, None, refl, sym, ap, subst, ◌∙◌, arith, inl, inr}
+use Rattle.std.proofs.Common.{◌≡◌, ℕ, ◌+◌, ◌-◌, ◌<◌, ◌≤◌, true, false, List, [], ◌∷◌, ◌++◌, length, get_or, map, Option, Some, None, refl, sym, ap, ◌∙◌, arith, inl, inr}
 use Rattle.std.specs.List.{range_with_len}
 use Rattle.std.proofs.lemmas.Bool.{cases_Bool, false≢true}
 use Rattle.std.proofs.lemmas.List.{same_lists, length-map, get_or-map}
@@ -16,7 +16,7 @@ use Rattle.row_image.specs.Image.{row_count, cell_in, stored_cell, stored_hash, 
 use Rattle.row_image.specs.Parts.{is_long, wanted, begins_fifth, LiesOn, HoldsTexts}
 use Rattle.row_image.specs.Rules.{text_limit, IsAccepted}
 use Rattle.row_image.specs.Flat.{is_long_in, flat, flattened, base_of}
-use Rattle.row_image.specs.Texts.{CellValue, TextValue, value_of, ValueRow, text_rows, heap_of, given_texts}
+use Rattle.row_image.specs.Texts.{value_of, ValueRow, text_rows, heap_of, given_texts}
 use Rattle.row_image.proofs.ByteLemmas.{SameOn, same_within}
 use Rattle.row_image.proofs.LayoutLemmas.{first_place}
 use Rattle.row_image.proofs.ListLemmas.{map_same}
@@ -26,8 +26,7 @@ use Rattle.row_image.proofs.GrownLemmas.{HasHeap}
 use Rattle.row_image.proofs.WrittenLemmas.{Written, rows_apart, cell_in_same, stored_row_same, written_cell_in, wanted_long}
 use Rattle.row_image.proofs.WrittenAccepted.{PartsAfter, parts_after, parts_most, text_column}
 use Rattle.row_image.proofs.Rebased.{long_fits}
-use Rattle.row_image.proofs.FlatPieces.{RowsLie}
-use Rattle.row_image.proofs.FlatStored.{not_long_cell, OffsetsFit, flat_cell_in, flat_hash, flat_count}
+use Rattle.row_image.proofs.FlatStored.{not_long_cell, flat_cell_in, flat_hash, flat_count}
 use Rattle.row_image.proofs.FlatParts.{flat_heap}
 use Rattle.row_image.proofs.WrittenFlat.{rows_lie, offsets_fit, base_known, long_is_text}
 

@@ -1,10 +1,11 @@
 -- Numbers in a list of bytes, and what a write leaves alone.
 use Rattle.std.specs.Prelude.{◌≡◌, ℕ, zero, suc, ◌+◌, ◌*◌, ◌/◌, ◌%◌, ◌^◌, ◌<◌, ◌≤◌, List, [], ◌∷◌, slice_index}
+use Rattle.row_image.specs.declared.limits.TheConstants.{LEAST_PAGE, MOST_PAGE}
 
--- a page's length is a power of two from 4,096 to 262,144
+-- a page's length is a power of two between two limits
 pub record IsPage (page : ℕ) : Type 0 where
-  pub least : 4096 ≤ page
-  pub most : page ≤ 262144
+  pub least : LEAST_PAGE ≤ page
+  pub most : page ≤ MOST_PAGE
   pub power : (k : ℕ) × (page ≡ 2 ^ k)
 
 -- the number in the n bytes from a place on, the lowest byte first

@@ -1,5 +1,6 @@
 -- Where the text of a long cell lies: on the heap page of its row's part, at its address.
 use Rattle.std.specs.Prelude.{◌≡◌, ◌≢◌, ℕ, ◌+◌, ◌-◌, ◌/◌, ◌%◌, ◌<◌, ◌≤◌, List, length, slice_range}
+use Rattle.row_image.specs.declared.limits.TheConstants.{HEAP_HEAD}
 use Rattle.row_image.specs.declared.layout.CellKind.{CellKind}
 use Rattle.row_image.specs.declared.image.ImageKind.TheVariants.{Rows}
 use Rattle.row_image.specs.Cells.{LongCell}
@@ -19,7 +20,7 @@ pub record IsOnHeap (kinds : List CellKind) (image : List ℕ) (row column : ℕ
   pub lies : LiesIn image row part
   pub lies_flat : LiesIn (flat (Rows kinds) image) row part
   pub heap : (part_at image part).heap ≢ no_heap
-  pub low : (part_at image part).base + 64 ≤ address
+  pub low : (part_at image part).base + HEAP_HEAD ≤ address
   pub high : address + size ≤ (part_at image part).base + length image
   pub offset : stored_cell kinds (flat (Rows kinds) image) row column ≡ LongCell prefix size (address - (part_at image part).base)
 

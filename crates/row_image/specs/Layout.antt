@@ -1,6 +1,7 @@
 -- Where the parts of a row lie: its null mask, its hash, and its cells in column order.
 use Rattle.std.specs.Prelude.{ℕ, ◌+◌, ◌*◌, ◌-◌, ◌/◌, Bool, true, false, List, length, take}
 use Rattle.std.specs.List.{sum_by, list_any}
+use Rattle.row_image.specs.declared.limits.TheConstants.{ROW_HEAD}
 use Rattle.row_image.specs.declared.layout.CellKind.{CellKind}
 use Rattle.row_image.specs.declared.layout.CellKind.TheVariants.{Bit, Four, Eight, Sixteen, Text}
 
@@ -35,10 +36,10 @@ width_of kinds = offset_of kinds (length kinds)
 unfoldable pub has_texts : List CellKind → Bool
 has_texts kinds = list_any is_text kinds
 
--- how many rows fit on a page, behind its 128 bytes of head
+-- how many rows fit on a page, behind its head
 unfoldable pub rows_that_fit : List CellKind → ℕ → ℕ
-rows_that_fit kinds page = (page - 128) / width_of kinds
+rows_that_fit kinds page = (page - ROW_HEAD) / width_of kinds
 
 -- where a row begins on its page
 unfoldable pub row_place : List CellKind → ℕ → ℕ
-row_place kinds row = 128 + row * width_of kinds
+row_place kinds row = ROW_HEAD + row * width_of kinds

@@ -1,6 +1,7 @@
 -- What becomes of the parts of a page when a row is written.
 use Rattle.std.specs.Prelude.{◌≡◌, ℕ, ◌+◌, ◌-◌, ◌%◌, ◌^◌, ◌<◌, ◌≤◌, ◌==◌, nat_lt, not, ◌&&◌, ◌||◌, Bool, true, false, if◌then◌else◌, List, [], ◌∷◌, ◌++◌, length, map, get_or, slice_set, Option, Some, None, IfSome}
 use Rattle.std.specs.List.{list_any}
+use Rattle.row_image.specs.declared.limits.TheConstants.{HEAP_HEAD}
 use Rattle.row_image.specs.declared.cell.CellIn.{CellIn}
 use Rattle.row_image.specs.declared.cell.CellIn.TheVariants.{Null}
 use Rattle.row_image.specs.declared.image.Part.{Part}
@@ -67,7 +68,7 @@ LiesOn page heap NullCell = Unit {0}
 LiesOn page heap (NumberCell z) = Unit {0}
 LiesOn page heap (ShortCell text) = Unit {0}
 LiesOn page None (LongCell prefix size address) = ⊥
-LiesOn page (Some heap) (LongCell prefix size address) = (heap.1 + 64 ≤ address) × (address + size ≤ heap.1 + page)
+LiesOn page (Some heap) (LongCell prefix size address) = (heap.1 + HEAP_HEAD ≤ address) × (address + size ≤ heap.1 + page)
 
 -- the heap page that is handed in has the row's long texts
 pub record HoldsTexts (page : ℕ) (parts : List Part) (cells : List CellIn) (heap : Option (ℕ × ℕ)) : Type 0 where

@@ -1,6 +1,7 @@
 -- The rules of a page, as a list in the order in which they are tested.
 use Rattle.std.specs.Prelude.{◌≡◌, ℕ, ◌+◌, ◌-◌, ◌/◌, ◌%◌, ◌^◌, ◌==◌, nat_le, nat_lt, not, ◌&&◌, Bool, if◌then◌else◌, List, [], ◌∷◌, ◌++◌, length, get_or, map, slice_index, slice_range, find, unwrap_or, Option, Some, None, Result, Ok, Err}
 use Rattle.std.specs.List.{range_with_len, sum_by, flat_map}
+use Rattle.row_image.specs.declared.limits.TheConstants.{HEAP_HEAD, MOST_TEXTS}
 use Rattle.row_image.specs.declared.layout.CellKind.{CellKind}
 use Rattle.row_image.specs.declared.layout.CellKind.TheVariants.{Bit, Four, Eight, Sixteen, Text}
 use Rattle.row_image.specs.declared.image.Part.{Part}
@@ -34,7 +35,7 @@ first_damage (rule ∷ rules) = if rule.holds then first_damage rules else Some 
 
 -- how many bytes a text may have
 unfoldable pub text_limit : ℕ → ℕ
-text_limit page = (page - 64) / 64
+text_limit page = (page - HEAP_HEAD) / MOST_TEXTS
 
 -- there are parts where there are rows and columns of texts
 unfoldable pub needs_parts : List CellKind → List ℕ → Bool
@@ -127,7 +128,7 @@ abbrev pub address_rule : ℕ → ℕ → ℕ → Part → Rule
 address_rule page size address part =
     record {
       field = CellAddress;
-      holds = not (part.heap == no_heap) && (nat_le (part.base + 64) address && nat_le (address + size) (part.base + page));
+      holds = not (part.heap == no_heap) && (nat_le (part.base + HEAP_HEAD) address && nat_le (address + size) (part.base + page));
       found = address;
       bound = part.base + page;
     }
@@ -165,7 +166,7 @@ row_rules kinds image row = flat_map (λ column. cell_rules kinds image row colu
 abbrev pub used_rule : List ℕ → Rule
 used_rule image =
     let used = number_at image 4 4 in
-    record { field = HeapUsed; holds = nat_le used (length image - 64); found = used; bound = length image - 64 }
+    record { field = HeapUsed; holds = nat_le used (length image - HEAP_HEAD); found = used; bound = length image - HEAP_HEAD }
 
 unfoldable pub rules_of : ImageKind → List ℕ → List Rule
 rules_of (Rows kinds) image =

@@ -4,11 +4,13 @@ ghost use Rattle.std.specs.List.{flat_map, range_with_len};
 ghost use Rattle.row_image.specs.Bytes.{IsPage, number_at};
 ghost use Rattle.row_image.specs.Layout.{cell_width, rows_that_fit, width_of, row_place};
 ghost use Rattle.row_image.specs.Image.{row_count, part_count, part_at, part_for};
+ghost use Rattle.row_image.specs.declared.limits.TheConstants.{MOST_PAGE};
 ghost use Rattle.row_image.specs.Rules.{rule_of, first_damage, text_limit, needs_parts, head_rules, rows_before, part_rules, first_set, address_rule, text_rules, kind_rules, cell_rules, row_rules, rules_of, IsAccepted, shape_of, Judges};
 
 use crate::bytes::{long_at, word_at};
 use crate::image::{Damage, DamageField, ImageKind, NO_HEAP, Part, Shape};
 use crate::layout::{CellKind, Layout};
+use crate::limits::{HEAP_HEAD, MOST_TEXTS};
 use crate::parts::{part_at, part_count};
 use crate::read::{is_null, row_count};
 
@@ -53,7 +55,7 @@ fn check_heap(image: &[u8]) -> Result<Shape, Damage>
     let kind = word_at(image, 0);
     test(DamageField::Kind, kind == 2, u64::from(kind), 2)?;
     let used = word_at(image, 4);
-    let room = image.len() - 64;
+    let room = image.len() - HEAP_HEAD;
     let fits = used as usize <= room;
     test(DamageField::HeapUsed, fits, u64::from(used), room as u64)?;
     Ok(Shape { rows: 0, parts: 0 })
@@ -108,7 +110,7 @@ fn check_head(layout: &Layout, image: &[u8]) -> Result<(), Damage>
 // The rules of the parts.
 fn check_parts(image: &[u8]) -> Result<(), Damage>
     requires page { IsPage (length image.now) }
-    requires rows { row_count image.now ≤ 262144 }
+    requires rows { row_count image.now ≤ MOST_PAGE }
     requires few { part_count image.now ≤ 4 }
     ensures { Judges (flat_map (λ part. part_rules image.now part) (range_with_len 0 (part_count image.now))) result }
 {
@@ -257,7 +259,7 @@ pub fn text_limit(page: usize) -> u32
     requires { IsPage page }
     ensures { result ≡ text_limit page }
 {
-    ((page - 64) / 64) as u32
+    ((page - HEAP_HEAD) / MOST_TEXTS) as u32
 }
 
 // The first byte that isn't 0, and 0 where there is none.
@@ -298,10 +300,11 @@ fn part_for(image: &[u8], row: u32) -> Part
 // Whether a long text lies on the heap page of a part.
 fn lies_on(part: Part, page: u64, size: u32, address: u64) -> bool
     requires base { part.base < 2 ^ 48 }
-    requires page { page ≤ 262144 }
+    requires page { page ≤ MOST_PAGE }
     ensures { result ≡ (address_rule page size address part).holds }
 {
-    part.heap != NO_HEAP && (part.base + 64 <= address && ends_by(address, size, part.base + page))
+    part.heap != NO_HEAP
+        && (part.base + HEAP_HEAD as u64 <= address && ends_by(address, size, part.base + page))
 }
 
 // Whether a text at an address ends by a place.

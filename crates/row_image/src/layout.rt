@@ -3,6 +3,7 @@ ghost use Rattle.std.specs.Prelude.{◌≡◌, ◌<◌, ◌≤◌, ◌+◌, leng
 ghost use Rattle.row_image.specs.Layout.{cell_width, is_text, mask_bytes, offset_of, width_of, has_texts, rows_that_fit, row_place};
 ghost use Rattle.row_image.specs.Padded.{offsets_of};
 
+use crate::limits::{LEAST_PAGE, MOST_COLUMNS, ROW_HEAD};
 use std::marker::Model;
 
 /// What a column's cells hold: a truth in 1 byte, a number in 4, 8 or 16 bytes, or a text in 16.
@@ -42,7 +43,7 @@ impl CellKind {
 /// The kinds of a row's cells, of which there are at most 65.
 #[derive(Clone, Copy)]
 pub struct Layout {
-    kinds: [CellKind; 65],
+    kinds: [CellKind; MOST_COLUMNS],
     count: usize,
     offsets: [u16; 66],
     texts: bool,
@@ -75,10 +76,10 @@ impl Layout {
     /// The layout of rows with these cells.
     pub fn new_layout(kinds: &[CellKind]) -> Layout
         requires some { 1 ≤ length kinds.now }
-        requires most { length kinds.now ≤ 65 }
+        requires most { length kinds.now ≤ MOST_COLUMNS }
         ensures { result ≡ kinds.now }
     {
-        let mut all = [CellKind::Bit; 65];
+        let mut all = [CellKind::Bit; MOST_COLUMNS];
         all[..kinds.len()].copy_from_slice(kinds);
         Layout {
             kinds: all,
@@ -91,7 +92,7 @@ impl Layout {
     /// How many columns there are.
     pub fn columns(&self) -> usize
         ensures count { result ≡ length self.now }
-        ensures most { result ≤ 65 }
+        ensures most { result ≤ MOST_COLUMNS }
     {
         self.count
     }
@@ -136,7 +137,7 @@ impl Layout {
     pub fn row_place(&self, row: u32) -> usize
         ensures { result ≡ row_place self.now row }
     {
-        128 + row as usize * self.width()
+        ROW_HEAD + row as usize * self.width()
     }
 
     /// Whether there is a column of texts.
@@ -148,10 +149,10 @@ impl Layout {
 
     /// How many rows fit on a page of that many bytes.
     pub fn rows_that_fit(&self, page: usize) -> usize
-        requires { 4096 ≤ page }
+        requires { LEAST_PAGE ≤ page }
         ensures { result ≡ rows_that_fit self.now page }
     {
-        (page - 128) / self.width()
+        (page - ROW_HEAD) / self.width()
     }
 }
 

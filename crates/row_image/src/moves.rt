@@ -5,6 +5,7 @@ ghost use Rattle.row_image.specs.Layout.{width_of, offset_of};
 ghost use Rattle.row_image.specs.Image.{part_count, part_at, parts_of, no_heap};
 ghost use Rattle.row_image.specs.Rules.{IsAccepted};
 ghost use Rattle.row_image.specs.Flat.{flat, is_long_in};
+ghost use Rattle.row_image.specs.declared.limits.TheConstants.{MOST_PAGE};
 ghost use Rattle.row_image.specs.Moves.{MovesCell, MovesRow, IsReached, based};
 ghost use Rattle.row_image.specs.declared.image.ImageKind.TheVariants.{Rows};
 
@@ -36,7 +37,7 @@ pub fn rebase(layout: &Layout, image: &mut [u8], part: u32, base: u64)
 // Moves the addresses in the row that begins at `at` from a base to another.
 fn move_row(layout: &Layout, image: &mut [u8], at: usize, from: u64, to: u64)
     requires room { at + width_of layout.now ≤ length image.old }
-    requires small { length image.old ≤ 262144 }
+    requires small { length image.old ≤ MOST_PAGE }
     requires low { to < 2 ^ 48 }
     requires reach { (column : ℕ) → column < length layout.now → IsReached layout.now image.old at from column }
     ensures others { ChangesOnly image.old image.new at (at + width_of layout.now) }
@@ -50,7 +51,7 @@ fn move_row(layout: &Layout, image: &mut [u8], at: usize, from: u64, to: u64)
 // Moves the address in a column's cell, where it is that of a text on a heap page.
 fn move_cell(layout: &Layout, image: &mut [u8], at: usize, column: usize, from: u64, to: u64)
     requires room { at + width_of layout.now ≤ length image.old }
-    requires small { length image.old ≤ 262144 }
+    requires small { length image.old ≤ MOST_PAGE }
     requires column { column < length layout.now }
     requires low { to < 2 ^ 48 }
     requires reach { IsReached layout.now image.old at from column }

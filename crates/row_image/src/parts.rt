@@ -1,7 +1,9 @@
 //! The parts of a row page.
 ghost use Rattle.std.specs.Prelude.{◌≡◌, ◌+◌, ◌*◌, ◌<◌, ◌≤◌, ◌↔◌, ℕ, length, IsTrue, slice_get, Some, true, false};
 ghost use Rattle.std.specs.List.{list_any};
-ghost use Rattle.row_image.specs.Bytes.{IsPage, ChangesOnly};
+ghost use Rattle.row_image.specs.Bytes.{IsPage, ChangesOnly, number_at};
+ghost use Rattle.row_image.specs.declared.limits.TheConstants.{ROW_HEAD};
+ghost use Rattle.row_image.specs.Stores.{KeepsEntries};
 ghost use Rattle.row_image.specs.Image.{row_count, part_count, part_at, parts_of, part_for};
 ghost use Rattle.row_image.specs.Cells.{given_cell};
 ghost use Rattle.row_image.specs.Parts.{wanted, joins, is_long, takes_row, grown, begun, parts_with, begins_fifth};
@@ -54,6 +56,7 @@ pub fn set_part(image: &mut [u8], part: u32, value: Part)
     requires part { part < 4 }
     ensures others { ChangesOnly image.old image.new (32 + 24 * part) (56 + 24 * part) }
     ensures stored { part_at image.new part ≡ value }
+    ensures zeros { number_at image.new (32 + 24 * part + 12) 4 ≡ 0 }
 {
     let at = 32 + 24 * part as usize;
     set_word(image, at, value.first);
@@ -74,7 +77,8 @@ pub fn put_part(image: &mut [u8], row: u32, want: Option<(u32, u64)>) -> bool
     ensures unchanged { result ≡ false → image.new ≡ image.old }
     ensures put { result ≡ true → parts_of image.new ≡ parts_with (parts_of image.old) row want }
     ensures few { part_count image.new ≤ 4 }
-    ensures others { ChangesOnly image.old image.new 12 128 }
+    ensures others { ChangesOnly image.old image.new 12 ROW_HEAD }
+    ensures entries { result ≡ true → KeepsEntries image.old image.new }
 {
     let parts = part_count(image);
     if joins(image, want) {

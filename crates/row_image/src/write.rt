@@ -8,13 +8,14 @@ ghost use Rattle.row_image.specs.Parts.{given_row, wanted, parts_with, begins_fi
 ghost use Rattle.row_image.specs.Rules.{text_limit, IsAccepted};
 ghost use Rattle.row_image.specs.Flat.{flat, given_flat};
 ghost use Rattle.row_image.specs.Texts.{text_rows, given_texts};
-ghost use Rattle.row_image.specs.Stores.{StoresRow};
+ghost use Rattle.row_image.specs.Stores.{StoresRow, KeepsEntries, KeepsHidden};
 ghost use Rattle.row_image.specs.declared.image.ImageKind.TheVariants.{Rows};
 
 use crate::bytes::set_word;
 use crate::cell::CellIn;
 use crate::image::RowPut;
 use crate::layout::Layout;
+use crate::limits::ROW_HEAD;
 use crate::parts::{put_part, wanted};
 use crate::put::{put_row, put_zeros};
 use crate::read::row_count;
@@ -24,10 +25,10 @@ pub fn new_rows(layout: &Layout, image: &mut [u8])
     requires { IsPage (length image.old) }
     ensures accepted { IsAccepted (Rows layout.now) image.new }
     ensures empty { rows_of layout.now image.new ≡ [] }
-    ensures head { (k : ℕ) → 8 ≤ k → k < 128 → slice_index image.new k ≡ 0 }
-    ensures rest { (k : ℕ) → 128 ≤ k → slice_index image.new k ≡ slice_index image.old k }
+    ensures head { (k : ℕ) → 8 ≤ k → k < ROW_HEAD → slice_index image.new k ≡ 0 }
+    ensures rest { (k : ℕ) → ROW_HEAD ≤ k → slice_index image.new k ≡ slice_index image.old k }
 {
-    put_zeros(image, 0, 128);
+    put_zeros(image, 0, ROW_HEAD);
     set_word(image, 0, 1);
     set_word(image, 4, layout.width() as u32);
 }
@@ -51,6 +52,7 @@ pub fn write_row(
     ensures flat { result ≡ RowPut.Wrote → rows_of layout.now (flat (Rows layout.now) image.new) ≡ rows_of layout.now (flat (Rows layout.now) image.old) ++ given_flat cells.now hash heap ∷ [] }
     ensures texts { result ≡ RowPut.Wrote → (heaps : ℕ → List ℕ) → text_rows layout.now (flat (Rows layout.now) image.new) heaps ≡ text_rows layout.now (flat (Rows layout.now) image.old) heaps ++ given_texts heaps cells.now hash heap ∷ [] }
     ensures bytes { result ≡ RowPut.Wrote → StoresRow layout.now image.new (row_place layout.now (row_count image.old)) cells.now hash }
+    ensures hidden { result ≡ RowPut.Wrote → KeepsHidden layout.now image.old image.new }
     ensures parts { result ≡ RowPut.Wrote → parts_of image.new ≡ (if has_texts layout.now then parts_with (parts_of image.old) (row_count image.old) (wanted cells.now heap) else parts_of image.old) }
 
     ensures page_full { (result ≡ RowPut.PageFull) ↔ (row_count image.old ≡ rows_that_fit layout.now (length image.old)) }
@@ -77,7 +79,8 @@ fn count_in_parts(layout: &Layout, image: &mut [u8], want: Option<(u32, u64)>) -
     ensures unchanged { result ≡ false → image.new ≡ image.old }
     ensures put { result ≡ true → parts_of image.new ≡ (if has_texts layout.now then parts_with (parts_of image.old) (row_count image.old) want else parts_of image.old) }
     ensures few { part_count image.new ≤ 4 }
-    ensures others { ChangesOnly image.old image.new 12 128 }
+    ensures others { ChangesOnly image.old image.new 12 ROW_HEAD }
+    ensures entries { result ≡ true → KeepsEntries image.old image.new }
 {
     if layout.has_texts() {
         let row = row_count(image);
@@ -97,6 +100,7 @@ fn append(layout: &Layout, image: &mut [u8], cells: &[CellIn], hash: u64)
     ensures row { StoresRow layout.now image.new (row_place layout.now (row_count image.old)) cells.now hash }
     ensures kind { (k : ℕ) → k < 8 → slice_index image.new k ≡ slice_index image.old k }
     ensures parts { (k : ℕ) → 12 ≤ k → k < row_place layout.now (row_count image.old) → slice_index image.new k ≡ slice_index image.old k }
+    ensures free { (k : ℕ) → row_place layout.now (row_count image.old) + width_of layout.now ≤ k → slice_index image.new k ≡ slice_index image.old k }
 {
     let row = row_count(image);
     set_word(image, 8, row + 1);

@@ -1,5 +1,5 @@
 use Rattle.std.proofs.Common.{arith, sym}
-use Rattle.page_body.proofs.Bags.{one_other}
+use Rattle.number_bags.proofs.Bags.{one_other}
 use Rattle.page_body.proofs.clients.release.Goals as goal
 
 pub unpin-requires-2 : goal.unpin-requires-2

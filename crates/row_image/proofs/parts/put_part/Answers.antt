@@ -5,6 +5,8 @@ use Rattle.row_image.specs.Image.{part_at, part_count}
 use Rattle.row_image.specs.Parts.{grown}
 use Rattle.row_image.proofs.ByteLemmas.{number_at_before, same_after}
 use Rattle.row_image.proofs.PartLemmas.{joins_counted, fifth_not, fifth_few, fifth_is, with_joined, with_begun, part_at_same, part_at_other}
+use Rattle.row_image.proofs.ByteLemmas.{number_at_after}
+use Rattle.row_image.proofs.EntryLemmas.{entry_kept}
 use Rattle.row_image.proofs.parts.put_part.Goals as goal
 
 pub overflow_sub-parts : goal.overflow_sub-parts
@@ -55,3 +57,22 @@ returns-clause-put c = λ _.
     with_begun old new c.args.row c.args.want (sym c.joins.ensures ∙ c.if-joins.false) (c.set_word.ensures.stored ∙ ap (λ k. k + 1) c.part_count-parts.ensures)
     (entries (part_count old) ∙ ap (part_at mid) (sym c.part_count-parts.ensures) ∙ c.set_part-2.ensures.stored ∙ c.begun.ensures)
     (λ j below. entries j ∙ part_at_other old mid n j (omega arith) c.set_part-2.ensures.others (let ne : j ≢ n = omega arith in ne))
+
+pub returns-then-joins-clause-entries : goal.returns-then-joins-clause-entries
+returns-then-joins-clause-entries c = λ _.
+    let last = c.part_count-parts.result - 1 in
+    let some = joins_counted c.args.image.now c.args.want (sym c.joins.ensures ∙ c.if-joins.true) in
+    let others = c.set_part.ensures.others in
+    let count = number_at_before c.args.image.now c.set_part.new.image (32 + 24 * last) (56 + 24 * last) others 12 4 (omega arith) in
+    entry_kept c.args.image.now c.set_part.new.image last (omega (arith, count, c.part_count-parts.ensures, some)) (λ k low high. others.before k high) others.after c.set_part.ensures.zeros
+
+pub returns-clause-entries : goal.returns-clause-entries
+returns-clause-entries c = λ _.
+    let old = c.args.image.now in
+    let mid = c.set_part-2.new.image in
+    let new = c.set_word.new.image in
+    let last = c.part_count-parts.result in
+    let others = c.set_part-2.ensures.others in
+    let word = c.set_word.ensures.others in
+    entry_kept old new last c.set_word.ensures.stored (λ k low high. word.after k (omega arith) ∙ others.before k high) (λ k past. word.after k (omega arith) ∙ others.after k past)
+    (number_at_after mid new 12 (12 + 4) word (32 + 24 * last + 12) 4 (omega arith) ∙ c.set_part-2.ensures.zeros)

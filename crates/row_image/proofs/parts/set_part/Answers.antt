@@ -16,3 +16,8 @@ returns-clause-stored c =
     let rows = number_at_before e f (at + 16) (at + 16 + 8) c.set_long.ensures.others (at + 4) 4 (omega arith) ∙ number_at_before d e (at + 12) (at + 12 + 4) c.set_word-4.ensures.others (at + 4) 4 (omega arith) ∙ number_at_before b d (at + 8) (at + 8 + 4) c.set_word-3.ensures.others (at + 4) 4 (omega arith) ∙ c.set_word-2.ensures.stored in
     let heap = number_at_before e f (at + 16) (at + 16 + 8) c.set_long.ensures.others (at + 8) 4 (omega arith) ∙ number_at_before d e (at + 12) (at + 12 + 4) c.set_word-4.ensures.others (at + 8) 4 (omega arith) ∙ c.set_word-3.ensures.stored in
     λ i. record { first = first i; rows = rows i; heap = heap i; base = c.set_long.ensures.stored i }
+
+pub returns-clause-zeros : goal.returns-clause-zeros
+returns-clause-zeros c =
+    let at = 32 + 24 * c.args.part in
+    number_at_before c.set_word-4.new.image c.set_long.new.image (at + 16) (at + 16 + 8) c.set_long.ensures.others (at + 12) 4 (omega arith) ∙ c.set_word-4.ensures.stored

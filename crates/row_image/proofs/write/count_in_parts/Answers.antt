@@ -4,6 +4,7 @@ use Rattle.row_image.proofs.AcceptedLemmas.{sound_of}
 use Rattle.row_image.proofs.PartLemmas.{fifth_few}
 use Rattle.row_image.proofs.PartFacts.{facts_of}
 use Rattle.row_image.proofs.WrittenAccepted.{parts_most, parts_none, fit_most}
+use Rattle.row_image.proofs.EntryLemmas.{entries_same}
 use Rattle.row_image.proofs.write.count_in_parts.Goals as goal
 
 pub put_part-requires-clause-parts : goal.put_part-requires-clause-parts
@@ -25,3 +26,7 @@ returns-else-has_texts-clause-full c =
 
 pub returns-else-has_texts-clause-few : goal.returns-else-has_texts-clause-few
 returns-else-has_texts-clause-few c = parts_most c.args.layout.now c.args.image.now (sound_of c.args.layout.now c.args.image.now c.requires.accepted).parts
+
+pub returns-else-has_texts-clause-entries : goal.returns-else-has_texts-clause-entries
+returns-else-has_texts-clause-entries c = λ _.
+    entries_same c.args.image.now (parts_none c.args.layout.now c.args.image.now (sound_of c.args.layout.now c.args.image.now c.requires.accepted).parts (sym c.has_texts.ensures ∙ c.if-has_texts.false))

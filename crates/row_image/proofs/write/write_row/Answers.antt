@@ -11,6 +11,7 @@ use Rattle.row_image.proofs.WrittenLemmas.{written_of, written_rows}
 use Rattle.row_image.proofs.WrittenAccepted.{written_accepted, fit_most}
 use Rattle.row_image.proofs.WrittenFlat.{written_flat}
 use Rattle.row_image.proofs.WrittenTexts.{written_texts}
+use Rattle.row_image.proofs.WrittenHidden.{hidden_kept}
 use Rattle.row_image.proofs.write.write_row.Goals as goal
 
 pub returns-then-not-count_in_parts-clause-parts_full : goal.returns-then-not-count_in_parts-clause-parts_full
@@ -93,3 +94,12 @@ returns-clause-texts c = λ _ heaps.
     ] in
     let accepted = written_accepted kinds old c.append.new.image c.args.cells.now c.args.hash c.args.heap w c.requires.accepted c.requires.meets c.requires.heap room (omega (arith, s.rows, ne)) c.requires.page.least in
     written_texts kinds old c.append.new.image c.args.cells.now c.args.hash c.args.heap heaps w c.requires.accepted accepted c.requires.meets c.requires.heap room c.requires.page.least c.requires.page.most
+
+pub returns-clause-hidden : goal.returns-clause-hidden
+returns-clause-hidden c = λ _.
+    let kinds = c.args.layout.now in
+    let old = c.args.image.now in
+    let mid = c.count_in_parts.new.image in
+    let new = c.append.new.image in
+    let same = number_at_before old mid 12 128 c.count_in_parts.ensures.others 8 4 (omega arith) in
+    hidden_kept kinds old mid new same c.count_in_parts.ensures.others (c.count_in_parts.ensures.entries c.if-not-count_in_parts.false) c.count_in_parts.ensures.few c.append.ensures.kind c.append.ensures.parts c.append.ensures.free

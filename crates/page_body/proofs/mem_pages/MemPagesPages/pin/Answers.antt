@@ -35,8 +35,8 @@ invariant_of-self c =
     let total = total_more slots at s s' was held (omega (arith, more, opens)) c.args.self.now.total in
     record { page_fits = c.args.self.now.page_fits; least = c.args.self.now.least; most = c.args.self.now.most; within = omega (arith, c.requires.room); total = total }
 
-pub seen-requires : goal.seen-requires
-seen-requires c =
+pub pin_of-requires : goal.pin_of-requires
+pin_of-requires c =
     let slots = c.args.self.now.slots.items in
     let held = c.args.self.now.held in
     let page = c.args.self.now.page in
@@ -70,7 +70,7 @@ returns-clause-valid c =
     let opens = ap opens_of is ∙ opens_with s (pins_of s + 1) in
     let lives = lives_on slots at s s' was page (λ p live. subst (λ z. LiveIn page p (Some z)) (sym is) (live_with page p s (pins_of s + 1) live)) in
     let some : 0 < pins_at (slice_set slots at s') at = let k = pins_there slots at s s' was in omega (arith, k, more) in
-    let valid = new_valid page (slice_set slots at s') c.args.page.now c.seen.result c.seen.ensures.page c.seen.ensures.frame some (lives c.args.page.now c.requires.live) in
+    let valid = new_valid page (slice_set slots at s') c.args.page.now c.pin_of.result c.pin_of.ensures.page c.pin_of.ensures.frame some (lives c.args.page.now c.requires.live) in
     valid
 
 pub returns-clause-shows : goal.returns-clause-shows
@@ -90,8 +90,8 @@ returns-clause-shows c =
     let opens = ap opens_of is ∙ opens_with s (pins_of s + 1) in
     let lives = lives_on slots at s s' was page (λ p live. subst (λ z. LiveIn page p (Some z)) (sym is) (live_with page p s (pins_of s + 1) live)) in
     let some : 0 < pins_at (slice_set slots at s') at = let k = pins_there slots at s s' was in omega (arith, k, more) in
-    let valid = new_valid page (slice_set slots at s') c.args.page.now c.seen.result c.seen.ensures.page c.seen.ensures.frame some (lives c.args.page.now c.requires.live) in
-    new_shows page (slice_set slots at s') c.args.page.now c.seen.result c.seen.ensures.page valid
+    let valid = new_valid page (slice_set slots at s') c.args.page.now c.pin_of.result c.pin_of.ensures.page c.pin_of.ensures.frame some (lives c.args.page.now c.requires.live) in
+    new_shows page (slice_set slots at s') c.args.page.now c.pin_of.result c.pin_of.ensures.page valid
 
 pub returns-clause-counted : goal.returns-clause-counted
 returns-clause-counted c =

@@ -89,8 +89,8 @@ invariant_of-self c =
     let total = total_more slots at s s' was held (omega (arith, more, opens)) c.args.self.now.total in
     record { page_fits = c.args.self.now.page_fits; least = c.args.self.now.least; most = c.args.self.now.most; within = omega (arith, c.requires.room); total = total }
 
-pub seen-requires : goal.seen-requires
-seen-requires c =
+pub pin_of-requires : goal.pin_of-requires
+pin_of-requires c =
     let slots = c.args.self.now.slots.items in
     let held = c.args.self.now.held in
     let page = c.args.self.now.page in
@@ -126,7 +126,7 @@ returns-clause-valid c =
     let opens = moved_opens kinds bases s s' moved in
     let lives = lives_on slots at s s' was page (λ p live. moved_others page c.args.page.now p kinds bases s s' c.requires.kind there moved live) in
     let some : 0 < pins_at (slice_set slots at s') at = let k = pins_there slots at s s' was in omega (arith, k, more) in
-    let valid = new_valid page (slice_set slots at s') c.args.page.now c.seen.result c.seen.ensures.page c.seen.ensures.frame some (lives c.args.page.now c.requires.live) in
+    let valid = new_valid page (slice_set slots at s') c.args.page.now c.pin_of.result c.pin_of.ensures.page c.pin_of.ensures.frame some (lives c.args.page.now c.requires.live) in
     valid
 
 pub returns-clause-shows : goal.returns-clause-shows
@@ -147,8 +147,8 @@ returns-clause-shows c =
     let opens = moved_opens kinds bases s s' moved in
     let lives = lives_on slots at s s' was page (λ p live. moved_others page c.args.page.now p kinds bases s s' c.requires.kind there moved live) in
     let some : 0 < pins_at (slice_set slots at s') at = let k = pins_there slots at s s' was in omega (arith, k, more) in
-    let valid = new_valid page (slice_set slots at s') c.args.page.now c.seen.result c.seen.ensures.page c.seen.ensures.frame some (lives c.args.page.now c.requires.live) in
-    new_shows page (slice_set slots at s') c.args.page.now c.seen.result c.seen.ensures.page valid
+    let valid = new_valid page (slice_set slots at s') c.args.page.now c.pin_of.result c.pin_of.ensures.page c.pin_of.ensures.frame some (lives c.args.page.now c.requires.live) in
+    new_shows page (slice_set slots at s') c.args.page.now c.pin_of.result c.pin_of.ensures.page valid
 
 pub returns-clause-based : goal.returns-clause-based
 returns-clause-based c =
@@ -167,7 +167,7 @@ returns-clause-based c =
     let more = moved_pins kinds bases s s' moved in
     let opens = moved_opens kinds bases s s' moved in
     let lives = lives_on slots at s s' was page (λ p live. moved_others page c.args.page.now p kinds bases s s' c.requires.kind there moved live) in
-    moved_based kinds bases s s' c.seen.result.frame.value moved (frame_is slots at s s' was c.seen.result.frame.value c.seen.ensures.frame)
+    moved_based kinds bases s s' c.pin_of.result.frame.value moved (frame_is slots at s s' was c.pin_of.result.frame.value c.pin_of.ensures.frame)
 
 pub returns-clause-counted : goal.returns-clause-counted
 returns-clause-counted c =
@@ -224,5 +224,5 @@ returns-clause-pins c =
     let more = moved_pins kinds bases s s' moved in
     let opens = moved_opens kinds bases s s' moved in
     let lives = lives_on slots at s s' was page (λ p live. moved_others page c.args.page.now p kinds bases s s' c.requires.kind there moved live) in
-    let none : pins_of s ≡ 0 = sym (ap (in_slot pins_of) was) ∙ c.requires.alone in
+    let none : pins_of s ≡ 0 = sym (ap (in_slot pins_of) was) ∙ c.requires.alone refl in
     valid_on slots at s s' was page (λ q v. absurd (unpinned_none slots at s s' was page none q v))

@@ -1,0 +1,9 @@
+pub mod Heaps
+pub mod Refused
+pub mod Numbers
+pub mod Values
+pub mod Told
+pub mod Below
+pub mod KeptParts
+pub mod ByNumber
+pub mod Owned

@@ -1,0 +1,11 @@
+pub mod Cells
+pub mod SetRows
+pub mod LongTexts
+pub mod Put
+pub mod Holds
+pub mod Changes
+pub mod Sets
+pub mod Writers
+pub mod Given
+pub mod Closing
+pub mod Adding

@@ -1,0 +1,23 @@
+//! Sets of rows on pages: writers, and the end of a set.
+#![tactic(auto)]
+
+mod adding;
+mod cells;
+mod closing;
+mod kinds;
+mod limits;
+mod opening;
+mod retire;
+mod row_put;
+mod row_set;
+mod texts;
+mod writer;
+
+pub use adding::try_append;
+pub use closing::{abandon, finish};
+pub use kinds::{Kinds, layout_of};
+pub use limits::{MOST_LONG, MOST_ROWS};
+pub use opening::{append, get_room};
+pub use retire::retire_set;
+pub use row_set::{RowSet, SetPage};
+pub use writer::Writer;

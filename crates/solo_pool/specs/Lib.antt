@@ -1,0 +1,15 @@
+pub mod Weights
+pub mod Moved
+pub mod State
+pub mod Spares
+pub mod Opened
+pub mod Sound
+pub mod Writes
+pub mod Views
+pub mod View
+pub mod Turned
+pub mod Steps
+pub mod Laws
+pub mod Sums
+pub mod SpillLaws
+pub mod LaneCounts

@@ -1,0 +1,6 @@
+//! Pools of 24 frames with more pages than frames, over lanes in memory that fail at some calls.
+
+mod elsewhere;
+mod images;
+mod lanes;
+mod orders;
