@@ -1,11 +1,12 @@
 //! Trees as texts: `(`, what the node is, its parts, `)`, with names and literals as the script has them.
 use sql_parse::tree::{
     Argument, ChainSign, Column, ColumnName, CompareSign, Condition, Constant, CopyOption, Expr,
-    Item, Join, Key, KeyColumn, Link, Literal, Operand, Script, Select, Sizes, Source, Sources,
-    Span, Statement,
+    Item, Join, Key, KeyColumn, Link, Literal, Operand, Rows, Script, Select, SetKind, SetOperand,
+    Sizes, Source, Span, Statement,
 };
 use sqlite_items::Boxed;
 use std::alloc::Global;
+use std::fmt::Write;
 
 /// A text that grows, and the script that names and literals are taken from.
 #[derive(Drop)]
@@ -46,6 +47,14 @@ impl<'a> Page<'a> {
         }
     }
 
+    /// A place in the script.
+    fn place(&mut self, place: usize) {
+        self.word("@");
+        if write!(self.text, "{place}").is_err() {
+            self.is_whole = false;
+        }
+    }
+
     fn open(&mut self, what: &str) {
         self.word("(");
         self.put(what);
@@ -83,6 +92,7 @@ impl<'a> Page<'a> {
             Literal::Text(span) => self.part("text", span),
             Literal::True(_) => self.word("true"),
             Literal::False(_) => self.word("false"),
+            Literal::Date(span) => self.part("date", span),
         }
     }
 
@@ -175,6 +185,13 @@ impl<'a> Page<'a> {
             self.part(what, span);
         }
     }
+
+    /// How rows are ordered and cut.
+    fn window(&mut self, select: &Select) {
+        self.keys(select.order.as_slice());
+        self.optional("limit", select.limit);
+        self.optional("offset", select.offset);
+    }
 }
 
 fn link_word(sign: ChainSign) -> &'static str {
@@ -198,36 +215,41 @@ fn compare_word(sign: CompareSign) -> &'static str {
     }
 }
 
-#[cycle(print_expr)]
+#[cycle(print)]
 fn print_link(link: &Link, page: &mut Page<'_>) {
     page.open(link_word(link.sign));
     print_expr(link.right.get(), page);
     page.close();
 }
 
-#[cycle(print_expr)]
+#[cycle(print)]
 fn print_operands(others: &[Operand], page: &mut Page<'_>) {
     for other in others {
         print_expr(other.right.get(), page);
     }
 }
 
-#[cycle(print_expr)]
+#[cycle(print)]
 fn print_links(links: &[Link], page: &mut Page<'_>) {
     for link in links {
         print_link(link, page);
     }
 }
 
-#[cycle(print_expr)]
+#[cycle(print)]
 fn print_argument(argument: &Argument, page: &mut Page<'_>) {
     match argument {
         Argument::Star => page.word("*"),
         Argument::Value(value) => print_expr(value.get(), page),
+        Argument::Distinct(value) => {
+            page.open("distinct");
+            print_expr(value.get(), page);
+            page.close();
+        }
     }
 }
 
-#[cycle(print_expr)]
+#[cycle(print)]
 fn print_expr(expr: &Expr, page: &mut Page<'_>) {
     match expr {
         Expr::Literal(literal) => page.literal(*literal),
@@ -307,6 +329,19 @@ fn print_expr(expr: &Expr, page: &mut Page<'_>) {
             page.constants(list.as_slice());
             page.close();
         }
+        Expr::Member {
+            place,
+            negated,
+            operand,
+            query,
+        } => {
+            page.open_test(*negated, "member");
+            page.place(*place);
+            print_expr(operand.get(), page);
+            page.place(query.get().place);
+            print_select(query.get(), page);
+            page.close();
+        }
         Expr::Between {
             negated,
             operand,
@@ -323,6 +358,7 @@ fn print_expr(expr: &Expr, page: &mut Page<'_>) {
     }
 }
 
+#[cycle(print)]
 fn print_condition(what: &str, condition: &Option<Condition>, page: &mut Page<'_>) {
     if let Some(condition) = condition {
         page.open(what);
@@ -331,6 +367,7 @@ fn print_condition(what: &str, condition: &Option<Condition>, page: &mut Page<'_
     }
 }
 
+#[cycle(print)]
 fn print_grouping(group: &[Boxed<Expr>], page: &mut Page<'_>) {
     if group.is_empty() {
         return;
@@ -342,6 +379,7 @@ fn print_grouping(group: &[Boxed<Expr>], page: &mut Page<'_>) {
     page.close();
 }
 
+#[cycle(print)]
 fn print_item(item: &Item, page: &mut Page<'_>) {
     match item {
         Item::Star(_) => page.word("*"),
@@ -358,6 +396,7 @@ fn print_item(item: &Item, page: &mut Page<'_>) {
     }
 }
 
+#[cycle(print)]
 fn print_items(items: &[Item], page: &mut Page<'_>) {
     page.open("items");
     for item in items {
@@ -366,7 +405,7 @@ fn print_items(items: &[Item], page: &mut Page<'_>) {
     page.close();
 }
 
-#[cycle(print_select)]
+#[cycle(print)]
 fn print_source(source: &Source, page: &mut Page<'_>) {
     match source {
         Source::Table { name, alias: None } => page.span(*name),
@@ -386,53 +425,88 @@ fn print_source(source: &Source, page: &mut Page<'_>) {
     }
 }
 
-#[cycle(print_select)]
+#[cycle(print)]
 fn print_join(join: &Join, page: &mut Page<'_>) {
-    if join.outer {
-        page.open("left");
-    } else {
-        page.open("join");
+    match join {
+        Join::Cross(source) => {
+            page.open("cross");
+            print_source(source, page);
+        }
+        Join::On { outer, source, on } => {
+            page.open(if *outer { "left" } else { "join" });
+            print_source(source, page);
+            print_expr(on.test.get(), page);
+        }
     }
-    print_source(&join.source, page);
-    print_expr(join.on.test.get(), page);
     page.close();
 }
 
-#[cycle(print_select)]
+#[cycle(print)]
 fn print_joins(joins: &[Join], page: &mut Page<'_>) {
     for join in joins {
         print_join(join, page);
     }
 }
 
-#[cycle(print_select)]
-fn print_sources(sources: &Sources, page: &mut Page<'_>) {
-    page.open("from");
-    match sources {
-        Sources::One(source) => print_source(source, page),
-        Sources::Joined { first, joins } => {
-            print_source(first, page);
-            print_joins(joins.as_slice(), page);
-        }
+fn set_word(kind: SetKind, all: bool) -> &'static str {
+    match (kind, all) {
+        (SetKind::Union, false) => "union",
+        (SetKind::Union, true) => "union-all",
+        (SetKind::Except, false) => "except",
+        (SetKind::Except, true) => "except-all",
+        (SetKind::Intersect, false) => "intersect",
+        (SetKind::Intersect, true) => "intersect-all",
     }
-    page.close();
 }
 
-#[cycle(print_select)]
-fn print_select(select: &Select, page: &mut Page<'_>) {
-    if select.distinct {
-        page.open("distinct");
-    } else {
-        page.open("select");
+#[cycle(print)]
+fn print_set_operands(others: &[SetOperand], page: &mut Page<'_>) {
+    for other in others {
+        page.open(set_word(other.kind, other.all));
+        page.place(other.place);
+        print_rows(other.right.get(), page);
+        page.close();
+        page.close();
     }
-    print_items(select.items.as_slice(), page);
-    print_sources(&select.sources, page);
-    print_condition("where", &select.filter, page);
-    print_grouping(select.group.as_slice(), page);
-    print_condition("having", &select.having, page);
-    page.keys(select.order.as_slice());
-    page.optional("limit", select.limit);
-    page.optional("offset", select.offset);
+}
+
+/// The rows of a select, whose last parenthesis is left out.
+#[cycle(print)]
+fn print_rows(rows: &Rows, page: &mut Page<'_>) {
+    match rows {
+        Rows::Core {
+            distinct,
+            items,
+            first,
+            joins,
+            filter,
+            group,
+            having,
+            ..
+        } => {
+            page.open(if *distinct { "distinct" } else { "select" });
+            print_items(items.as_slice(), page);
+            page.open("from");
+            print_source(first, page);
+            print_joins(joins.as_slice(), page);
+            page.close();
+            print_condition("where", filter, page);
+            print_grouping(group.as_slice(), page);
+            print_condition("having", having, page);
+        }
+        Rows::Sets { first, others } => {
+            page.open("sets");
+            print_rows(first.get(), page);
+            page.close();
+            print_set_operands(others.as_slice(), page);
+        }
+    }
+}
+
+#[cycle(print)]
+fn print_select(select: &Select, page: &mut Page<'_>) {
+    print_rows(select.rows.get(), page);
+    page.window(select);
     page.close();
 }
 

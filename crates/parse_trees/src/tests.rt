@@ -1,5 +1,7 @@
 //! Scripts with their trees, or with the place of their fault, written by hand from the grammar.
 use crate::printing::{Page, print_script};
+use sql_grammar::text_at;
+use sql_grammar::tree::Span;
 use sql_lex::lex;
 use sql_parse::{ParseFault, parse};
 use std::alloc::Global;
@@ -23,7 +25,7 @@ fn shown(alloc: Global, script: &str) -> Result<String, Fail> {
     }
 }
 
-static TREES: [(&str, &str); 29] = [
+static TREES: [(&str, &str); 45] = [
     ("", ""),
     (";;", ""),
     ("SELECT a FROM t", "(select (items a) (from t))"),
@@ -122,10 +124,79 @@ static TREES: [(&str, &str); 29] = [
         "CREATE TABLE header (delimiter INT); SELECT header FROM delimiter",
         "(create header (column delimiter INT)) (select (items header) (from delimiter))",
     ),
+    // set operations: INTERSECT binds tighter, the others from the left
+    (
+        "SELECT a FROM t UNION SELECT b FROM u",
+        "(sets (select (items a) (from t)) (union @22 (select (items b) (from u))))",
+    ),
+    (
+        "SELECT a FROM t UNION ALL SELECT b FROM u EXCEPT SELECT c FROM v ORDER BY 1 LIMIT 2 OFFSET 3",
+        "(sets (select (items a) (from t)) (union-all @26 (select (items b) (from u))) (except @49 (select (items c) (from v))) (order (asc (item 1))) (limit 2) (offset 3))",
+    ),
+    (
+        "SELECT a FROM t UNION SELECT b FROM u INTERSECT ALL SELECT c FROM v EXCEPT ALL SELECT d FROM w",
+        "(sets (select (items a) (from t)) (union @22 (sets (select (items b) (from u)) (intersect-all @52 (select (items c) (from v))))) (except-all @79 (select (items d) (from w))))",
+    ),
+    (
+        "SELECT a FROM t INTERSECT SELECT b FROM u UNION SELECT c FROM v",
+        "(sets (sets (select (items a) (from t)) (intersect @26 (select (items b) (from u)))) (union @48 (select (items c) (from v))))",
+    ),
+    (
+        "EXPLAIN SELECT a FROM t UNION SELECT DISTINCT a FROM u WHERE b HAVING c",
+        "(explain (sets (select (items a) (from t)) (union @30 (distinct (items a) (from u) (where b) (having c)))))",
+    ),
+    (
+        "SELECT a FROM (SELECT b FROM u UNION SELECT c FROM v LIMIT 1) s",
+        "(select (items a) (from (as s (sets (select (items b) (from u)) (union @37 (select (items c) (from v))) (limit 1)))))",
+    ),
+    // joins without a condition
+    (
+        "SELECT a FROM t CROSS JOIN u",
+        "(select (items a) (from t (cross u)))",
+    ),
+    (
+        "SELECT a FROM t CROSS JOIN (SELECT b FROM u) s LEFT JOIN v ON a = b CROSS JOIN w x",
+        "(select (items a) (from t (cross (as s (select (items b) (from u)))) (left v (= a b)) (cross (as x w))))",
+    ),
+    // IN with a subquery
+    (
+        "SELECT a FROM t WHERE a IN (SELECT b FROM u)",
+        "(select (items a) (from t) (where (member @24 a @28 (select (items b) (from u)))))",
+    ),
+    (
+        "SELECT a FROM t WHERE a + 1 NOT IN (SELECT b FROM u EXCEPT SELECT c FROM v) AND d",
+        "(select (items a) (from t) (where (and (not-member @32 (chain a (+ (int 1))) @36 (sets (select (items b) (from u)) (except @59 (select (items c) (from v))))) d)))",
+    ),
+    // aggregates of different values
+    (
+        "SELECT count(DISTINCT a), count(DISTINCT a + b) FROM t",
+        "(select (items (call count (distinct a)) (call count (distinct (chain a (+ b))))) (from t))",
+    ),
+    // dates, and DATE as a name
+    (
+        "SELECT DATE '2020-02-29', date, date.a, date(b), DATE . c, d date FROM date date WHERE date > DATE'1-1-1'",
+        "(select (items (date '2020-02-29') date date.a (call date b) DATE.c (as date d)) (from (as date date)) (where (> date (date '1-1-1'))))",
+    ),
+    (
+        "SELECT date.*, \"date\" FROM t WHERE - date '' BETWEEN date AND date 'x' ORDER BY date, date.a",
+        "(select (items (all date) \"date\") (from t) (where (between (minus (date '')) date (date 'x'))) (order (asc date) (asc date.a)))",
+    ),
+    (
+        "SELECT a FROM t WHERE a IN (DATE '2020-01-01', - date 'x', 'y', TRUE)",
+        "(select (items a) (from t) (where (in a (date '2020-01-01') (minus (date 'x')) (text 'y') true)))",
+    ),
+    (
+        "CREATE TABLE date (date DATE NOT NULL)",
+        "(create date (column date DATE not-null))",
+    ),
     // thirty-two levels
     (
         "SELECT ((((((((((((((((((((((((((((((((a)))))))))))))))))))))))))))))))) FROM t",
         "(select (items a) (from t))",
+    ),
+    (
+        "SELECT a FROM t WHERE (((((((((((((((((((((((((((((((a IN (SELECT b FROM u))))))))))))))))))))))))))))))))",
+        "(select (items a) (from t) (where (member @55 a @59 (select (items b) (from u)))))",
     ),
     (
         "SELECT - - - - - - - - - - - - - - - - - - - - - - - - - - - - - - - (a) FROM t",
@@ -133,7 +204,7 @@ static TREES: [(&str, &str); 29] = [
     ),
 ];
 
-static FAULTS: [(&str, &str); 32] = [
+static FAULTS: [(&str, &str); 52] = [
     ("SELECT a FROM t WHERE", "syntax 21"),
     ("SELECT a FROM t SELECT", "syntax 16"),
     ("SELECT a, FROM t", "syntax 10"),
@@ -150,8 +221,37 @@ static FAULTS: [(&str, &str); 32] = [
     ("SELECT a FROM t WHERE a NOT NULL", "syntax 28"),
     ("SELECT a FROM t WHERE a IS NOT", "syntax 30"),
     ("SELECT a FROM t WHERE a = NOT b", "syntax 26"),
-    ("SELECT a FROM t CROSS JOIN u", "syntax 16"),
-    ("SELECT a FROM t UNION SELECT a FROM u", "syntax 16"),
+    ("SELECT a FROM t CROSS u", "syntax 22"),
+    ("SELECT a FROM t CROSS JOIN u ON a", "syntax 29"),
+    ("SELECT a FROM t UNION (SELECT b FROM u)", "syntax 22"),
+    (
+        "SELECT a FROM t UNION DISTINCT SELECT b FROM u",
+        "syntax 22",
+    ),
+    (
+        "SELECT a FROM t ORDER BY a UNION SELECT b FROM u",
+        "syntax 27",
+    ),
+    ("SELECT a FROM t INTERSECT", "syntax 25"),
+    ("SELECT a FROM t WHERE a IN (DATE)", "syntax 32"),
+    ("SELECT a FROM t WHERE a IN (date, 1)", "syntax 32"),
+    (
+        "SELECT a FROM t WHERE a IN ((SELECT b FROM u))",
+        "syntax 28",
+    ),
+    ("SELECT a FROM t WHERE a IN (SELECT b FROM u", "syntax 43"),
+    (
+        "SELECT a FROM t WHERE a IN (SELECT b FROM u, 1)",
+        "syntax 43",
+    ),
+    ("SELECT a FROM t WHERE a IN SELECT b FROM u", "syntax 27"),
+    ("SELECT (SELECT a FROM t) FROM u", "syntax 8"),
+    ("SELECT f(SELECT a FROM t) FROM u", "syntax 9"),
+    ("CREATE TABLE t (SELECT", "syntax 16"),
+    ("SELECT count(DISTINCT *) FROM t", "syntax 22"),
+    ("SELECT a DATE 'x' FROM t", "syntax 14"),
+    ("SELECT \"date\" 'x' FROM t", "syntax 14"),
+    ("SELECT date 'x' 'y' FROM t", "syntax 16"),
     ("SELECT a FROM t, u", "syntax 15"),
     ("SELECT a FROM (SELECT b FROM u)", "syntax 31"),
     ("SELECT a FROM t LIMIT -1", "syntax 22"),
@@ -171,6 +271,19 @@ static FAULTS: [(&str, &str); 32] = [
         "SELECT NOT NOT NOT NOT NOT NOT NOT NOT NOT NOT NOT NOT NOT NOT NOT NOT NOT NOT NOT NOT NOT NOT NOT NOT NOT NOT NOT NOT NOT NOT NOT NOT NOT a FROM t",
         "too deep 135",
     ),
+    // where IN is behind the last level, a subquery is too deep and a list isn't
+    (
+        "SELECT a FROM t WHERE ((((((((((((((((((((((((((((((((a IN (SELECT b",
+        "too deep 59",
+    ),
+    (
+        "SELECT a FROM t WHERE ((((((((((((((((((((((((((((((((a IN (1,",
+        "syntax 62",
+    ),
+    (
+        "SELECT a FROM t WHERE ((((((((((((((((((((((((((((((((a IN (b",
+        "syntax 60",
+    ),
     (
         "SELECT ) ((((((((((((((((((((((((((((((((((((((((",
         "syntax 7",
@@ -183,5 +296,16 @@ fn trees_and_faults(rt: HostRuntime) -> Result<(), Fail> {
         let given = shown(rt.alloc(), script)?;
         assert_eq!(rt; given.as_str(), *expected, "at {script}");
     }
+    Ok(())
+}
+
+#[test]
+fn parts_of_a_script(rt: HostRuntime) -> Result<(), Fail> {
+    let inside = Span { start: 4, end: 6 };
+    let beyond = Span { start: 4, end: 7 };
+    let reversed = Span { start: 6, end: 4 };
+    assert_eq!(rt; text_at(b"abcdef", inside), b"ef".as_slice());
+    assert_eq!(rt; text_at(b"abcdef", beyond), b"".as_slice());
+    assert_eq!(rt; text_at(b"abcdef", reversed), b"".as_slice());
     Ok(())
 }

@@ -1,12 +1,8 @@
 -- The value and the type of an expression by its outermost node.
-use Rattle.std.proofs.Common.{◌≡◌, ℕ, Bool, true, false, cond, List, [], ◌∷◌, map, refl, sym, ap, ◌∙◌, subst}
-use Rattle.std.specs.Prelude.{Some, None}
-use Rattle.sql_expr.specs.declared.tree.ChainSign.{ChainSign}
-use Rattle.sql_expr.specs.declared.tree.ChainSign.TheVariants.{Plus, Minus, Times, Quotient, Remainder}
+use Rattle.std.proofs.Common.{◌≡◌, List, [], ◌∷◌, map, refl, sym, ap, ◌∙◌}
 use Rattle.ooc_types.specs.declared.value.Value.{Value}
 use Rattle.ooc_types.specs.declared.schema.SqlType.{SqlType}
-use Rattle.ooc_types.specs.declared.schema.SqlType.TheVariants.{Boolean, Integer, BigInt, HugeInt, Decimal, Varchar}
-use Rattle.ooc_decimal.specs.Numeric.{IsNumeric}
+use Rattle.ooc_types.specs.declared.schema.SqlType.TheVariants.{Boolean, Integer, BigInt, HugeInt, Decimal, Date, Varchar}
 use Rattle.sql_expr.specs.declared.tree.Expr.{Expr}
 use Rattle.sql_expr.specs.declared.tree.Link.{Link}
 use Rattle.sql_expr.specs.declared.tree.Expr.TheOpen.{Expr-F}
@@ -15,8 +11,10 @@ use Rattle.sql_expr.specs.declared.tree.Expr.TheViews.{out-Expr, roll-Expr, roll
 use Rattle.sql_expr.specs.Arithmetic.{Meaning}
 use Rattle.sql_expr.specs.Meaning.{LinkMeaning, value_of, value_step, link_step, link_meaning, plain_link, chain_from}
 use Rattle.sql_expr.specs.Kinds.{kind_of, kind_step, link_kind, link_kind_step, last_kind}
-use Rattle.sql_expr.specs.Typing.{AreLinks, FitsRow, IsNumber, wider, sum_type, product_type, result_type}
+use Rattle.sql_expr.specs.Operations.{IsAmount, IsText}
+use Rattle.sql_expr.specs.Typing.{AreLinks, FitsRow}
 use Rattle.sql_expr.specs.Ready.{AreReady}
+use Rattle.sql_expr.proofs.Linked.{linked_amount}
 use Rattle.sql_expr.proofs.Opened.{AllLinks}
 
 pub value_out : (row : List Value) (e : Expr) (x : Expr-F Expr Link) → out-Expr e ≡ x
@@ -51,13 +49,24 @@ pub chain_kind : (e : Expr) (first : Expr) (links : List Link) → out-Expr e �
     → kind_of e ≡ last_kind (kind_of first) (map (λ link. link.kind) links)
 chain_kind e first links is = kind_out e (Expr-F.Chain first links) is ∙ ap (last_kind (kind_of first)) (link_kinds links)
 
-pub numeric_is_number : (kind : SqlType) → IsNumeric kind → IsNumber kind
-numeric_is_number Boolean h = absurd h
-numeric_is_number Integer h = refl
-numeric_is_number BigInt h = refl
-numeric_is_number HugeInt h = refl
-numeric_is_number (Decimal w s) h = refl
-numeric_is_number Varchar h = absurd h
+-- an amount is no truth and no text
+pub amount_no_truth : (kind : SqlType) → IsAmount kind → kind ≡ Boolean → ⊥
+amount_no_truth Boolean h is = h
+amount_no_truth Integer h is = cc
+amount_no_truth BigInt h is = cc
+amount_no_truth HugeInt h is = cc
+amount_no_truth (Decimal w s) h is = cc
+amount_no_truth Date h is = cc
+amount_no_truth Varchar h is = h
+
+pub amount_no_text : (kind : SqlType) → IsAmount kind → IsText kind → ⊥
+amount_no_text Boolean h is = h
+amount_no_text Integer h is = cc
+amount_no_text BigInt h is = cc
+amount_no_text HugeInt h is = cc
+amount_no_text (Decimal w s) h is = cc
+amount_no_text Date h is = cc
+amount_no_text Varchar h is = h
 
 pub ready : (row : List Value) (kind : SqlType) (links : List Link)
     → AllLinks (λ e. FitsRow e row) links → AreLinks kind links → AreReady row kind links
@@ -67,50 +76,8 @@ ready row kind (link ∷ links) fit typed = (fit.0, typed.0, ready row link.kind
 pub is_rolled : (e : Expr) (x : Expr-F Expr Link) → out-Expr e ≡ x → e ≡ roll-Expr x
 is_rolled e x is = sym (roll-out-Expr e) ∙ ap roll-Expr is
 
-same_number : (l kind : SqlType) → IsNumber l → Some l ≡ Some kind → IsNumber kind
-same_number l kind n e = let f : l ≡ kind = cc in subst IsNumber f n
-
-wider_number : (k l kind : SqlType) → wider k l ≡ Some kind → IsNumber kind
-wider_number Integer Integer kind e = same_number Integer kind refl e
-wider_number Integer BigInt kind e = same_number BigInt kind refl e
-wider_number Integer HugeInt kind e = same_number HugeInt kind refl e
-wider_number BigInt Integer kind e = same_number BigInt kind refl e
-wider_number BigInt BigInt kind e = same_number BigInt kind refl e
-wider_number BigInt HugeInt kind e = same_number HugeInt kind refl e
-wider_number HugeInt Integer kind e = same_number HugeInt kind refl e
-wider_number HugeInt BigInt kind e = same_number HugeInt kind refl e
-wider_number HugeInt HugeInt kind e = same_number HugeInt kind refl e
-wider_number k l kind e = cc
-
-decimal_number : (b : Bool) (w s : ℕ) (kind : SqlType) → cond b (Some (Decimal w s)) None ≡ Some kind → IsNumber kind
-decimal_number true w s kind e = same_number (Decimal w s) kind refl e
-decimal_number false w s kind e = cc
-
-sum_number : (k l kind : SqlType) → sum_type k l ≡ Some kind → IsNumber kind
-sum_number (Decimal w s) (Decimal v t) kind e = decimal_number _ _ _ kind e
-sum_number (Decimal w s) Integer kind e = decimal_number _ _ _ kind e
-sum_number (Decimal w s) BigInt kind e = decimal_number _ _ _ kind e
-sum_number Integer (Decimal v t) kind e = decimal_number _ _ _ kind e
-sum_number BigInt (Decimal v t) kind e = decimal_number _ _ _ kind e
-sum_number k l kind e = wider_number k l kind e
-
-product_number : (k l kind : SqlType) → product_type k l ≡ Some kind → IsNumber kind
-product_number (Decimal w s) (Decimal v t) kind e = decimal_number _ _ _ kind e
-product_number (Decimal w s) Integer kind e = decimal_number _ _ _ kind e
-product_number (Decimal w s) BigInt kind e = decimal_number _ _ _ kind e
-product_number Integer (Decimal v t) kind e = decimal_number _ _ _ kind e
-product_number BigInt (Decimal v t) kind e = decimal_number _ _ _ kind e
-product_number k l kind e = wider_number k l kind e
-
-result_number : (sign : ChainSign) (k l kind : SqlType) → result_type sign k l ≡ Some kind → IsNumber kind
-result_number Plus k l kind e = sum_number k l kind e
-result_number Minus k l kind e = sum_number k l kind e
-result_number Times k l kind e = product_number k l kind e
-result_number Quotient k l kind e = wider_number k l kind e
-result_number Remainder k l kind e = wider_number k l kind e
-
--- a chain of numbers is a number
-pub chain_number : (kind : SqlType) (links : List Link) → IsNumber kind → AreLinks kind links → IsNumber (last_kind kind (map (λ link. link.kind) links))
-chain_number kind [] n typed = n
-chain_number kind (link ∷ links) n typed =
-    chain_number link.kind links (result_number link.sign kind (kind_of link.right) link.kind typed.0.gives) typed.1
+-- a chain of amounts is an amount
+pub chain_amount : (kind : SqlType) (links : List Link) → IsAmount kind → AreLinks kind links → IsAmount (last_kind kind (map (λ link. link.kind) links))
+chain_amount kind [] n typed = n
+chain_amount kind (link ∷ links) n typed =
+    chain_amount link.kind links (linked_amount link.sign kind (kind_of link.right) link.kind typed.0) typed.1

@@ -4,7 +4,7 @@ use Rattle.std.specs.Prelude.{⊤, slice_get, Some}
 use Rattle.ooc_types.specs.declared.value.Value.{Value}
 use Rattle.ooc_types.specs.declared.value.Value.TheVariants.{Null}
 use Rattle.ooc_types.specs.declared.schema.SqlType.{SqlType}
-use Rattle.ooc_types.specs.Meets.{Meets, HasForm}
+use Rattle.ooc_types.specs.Meets.{Meets, AllMeet}
 use Rattle.sql_expr.specs.declared.tree.Expr.{Expr}
 use Rattle.sql_expr.specs.declared.tree.Link.{Link}
 use Rattle.sql_expr.specs.declared.tree.Expr.TheOpen.{Expr-F}
@@ -70,6 +70,19 @@ right_typed columns l h =
     let held = every_held-Link (IsTypedNode columns) AnyLink l h in
     subst (IsTyped columns) (ap (λ x. x.right) held.1) held.0.right.1
 
+-- a node that is typed, over operands that are
+pub record TypedNode (columns : List SqlType) (x : Expr-F Expr Link) : Type 0 where
+  pub node : IsTypedNode columns x
+  pub children : Children (IsTyped columns) x
+
+pub opened_typed : (columns : List SqlType) (e : Expr) (x : Expr-F Expr Link) → IsTyped columns e → out-Expr e ≡ x → TypedNode columns x
+opened_typed columns e x typed is =
+    let held = every_held-Expr (IsTypedNode columns) AnyLink e typed in
+    record {
+      node = subst (IsTypedNode columns) is (every_here-Expr (IsTypedNode columns) AnyLink e typed);
+      children = children_hold (IsTyped columns) (every-Link (IsTypedNode columns) AnyLink) (IsTyped columns) (λ e t. t) (λ l t. right_typed columns l t) x held.0 (held.1 ∙ is);
+    }
+
 -- a node that is typed, over operands that fit the row
 pub record Node (row : List Value) (x : Expr-F Expr Link) : Type 0 where
   pub columns : List SqlType
@@ -92,17 +105,17 @@ opened row e x fits is =
           x held.0 (held.1 ∙ is);
     }
 
--- the value of a column has the column's form
-pub record InColumn (limit : ℕ) (kind : SqlType) (row : List Value) (place : ℕ) : Type 0 where
+-- the value of a column has the fact that its type asks
+pub record InColumn (Fact : SqlType → Value → Type 0) (kind : SqlType) (row : List Value) (place : ℕ) : Type 0 where
   pub within : place < length row
-  pub form : HasForm limit kind (slice_index_or row place Null)
+  pub form : Fact kind (slice_index_or row place Null)
 
-pub meets_at : (limit : ℕ) (kinds : List SqlType) (row : List Value) (place : ℕ) (kind : SqlType)
-    → Meets limit kinds row → slice_get kinds place ≡ Some kind → InColumn limit kind row place
-meets_at limit [] [] place kind meets is = cc
-meets_at limit [] (v ∷ row) place kind meets is = absurd meets
-meets_at limit (k ∷ kinds) [] place kind meets is = absurd meets
-meets_at limit (k ∷ kinds) (v ∷ row) zero kind meets is = record { within = omega arith; form = let e : k ≡ kind = cc in subst (λ x. HasForm limit x v) e meets.0 }
-meets_at limit (k ∷ kinds) (v ∷ row) (suc place) kind meets is =
-    let next = meets_at limit kinds row place kind meets.1 is in
+pub meets_at : (Fact : SqlType → Value → Type 0) (kinds : List SqlType) (row : List Value) (place : ℕ) (kind : SqlType)
+    → AllMeet Fact kinds row → slice_get kinds place ≡ Some kind → InColumn Fact kind row place
+meets_at Fact [] [] place kind meets is = cc
+meets_at Fact [] (v ∷ row) place kind meets is = absurd meets
+meets_at Fact (k ∷ kinds) [] place kind meets is = absurd meets
+meets_at Fact (k ∷ kinds) (v ∷ row) zero kind meets is = record { within = omega arith; form = let e : k ≡ kind = cc in subst (λ (x : SqlType). Fact x v) e meets.0 }
+meets_at Fact (k ∷ kinds) (v ∷ row) (suc place) kind meets is =
+    let next = meets_at Fact kinds row place kind meets.1 is in
     record { within = let h = next.within in omega arith; form = next.form }

@@ -13,7 +13,8 @@ use Rattle.sql_expr.specs.Kinds.{kind_of}
 use Rattle.sql_expr.specs.Logic.{truth_value, truth_in, and_truth, or_truth}
 use Rattle.sql_expr.specs.Meaning.{and_behind, or_behind, every_from, either_from}
 use Rattle.sql_expr.specs.Ready.{AreConditions, AreComparable}
-use Rattle.sql_expr.specs.Typing.{FitsRow, IsComparable}
+use Rattle.sql_expr.specs.Operations.{IsComparable}
+use Rattle.sql_expr.specs.Typing.{FitsRow}
 
 pub drop_is : (list : List Expr) (i : ℕ) (e : Expr) → i < length list → e ≡ get_or list i e → drop i list ≡ e ∷ drop (i + 1) list
 drop_is [] i e h is = absurd (omega arith)

@@ -1,10 +1,10 @@
 -- The values of expressions that are texts, node by node.
-use Rattle.std.proofs.Common.{◌≡◌, ℕ, List, refl, ap, ◌∙◌, subst, get_or}
+use Rattle.std.proofs.Common.{◌≡◌, ℕ, List, refl, sym, ap, ◌∙◌, subst, get_or}
 use Rattle.std.specs.Prelude.{ℤ, pos, negsuc, Option, Ok}
 use Rattle.ooc_types.specs.declared.value.Value.{Value}
-use Rattle.ooc_types.specs.declared.value.Value.TheVariants.{Null, Truth, Number, Text}
+use Rattle.ooc_types.specs.declared.value.Value.TheVariants.{Null, Truth, Number, Day, Text}
 use Rattle.ooc_types.specs.declared.schema.SqlType.{SqlType}
-use Rattle.ooc_types.specs.declared.schema.SqlType.TheVariants.{Boolean, Integer, BigInt, HugeInt, Decimal, Varchar}
+use Rattle.ooc_types.specs.declared.schema.SqlType.TheVariants.{Boolean, Integer, BigInt, HugeInt, Decimal, Date, Varchar}
 use Rattle.ooc_types.specs.Meets.{HasForm, IsNumberOf}
 use Rattle.sql_expr.specs.declared.tree.Expr.{Expr}
 use Rattle.sql_expr.specs.declared.tree.Link.{Link}
@@ -15,10 +15,12 @@ use Rattle.sql_expr.specs.declared.tree.Expr.TheVariants as variant
 use Rattle.sql_expr.specs.Meaning.{value_of}
 use Rattle.sql_expr.specs.Kinds.{kind_of}
 use Rattle.sql_expr.specs.Outcomes.{text_value, bytes_in}
-use Rattle.sql_expr.specs.Typing.{FitsRow, IsText, IsNumberLiteral, IsLiteral, family}
+use Rattle.sql_expr.specs.Operations.{IsText, family}
+use Rattle.sql_expr.specs.Typing.{FitsRow, IsNumberLiteral, IsLiteral}
 use Rattle.sql_expr.proofs.Opened.{opened, meets_at}
-use Rattle.sql_expr.proofs.Nodes.{value_out, kind_out, chain_kind, numeric_is_number, chain_number, is_rolled}
-use Rattle.sql_expr.proofs.Numbers.{get_or_same}
+use Rattle.sql_expr.proofs.Nodes.{value_out, kind_out, chain_kind, amount_no_text, chain_amount, is_rolled}
+use Rattle.sql_expr.proofs.Linked.{numeric_is_amount}
+use Rattle.sql_expr.proofs.Amounts.{get_or_same}
 
 no_number : (kind : SqlType) (a : ℤ) (m : ℕ) → IsNumberOf kind a m → IsText kind → ⊥
 no_number Boolean a m h is = h
@@ -26,12 +28,14 @@ no_number Integer a m h is = cc
 no_number BigInt a m h is = cc
 no_number HugeInt a m h is = cc
 no_number (Decimal w s) a m h is = cc
+no_number Date a m h is = h
 no_number Varchar a m h is = h
 
 text_form : (limit : ℕ) (kind : SqlType) (v : Value) → HasForm limit kind v → IsText kind → v ≡ text_value (bytes_in v)
 text_form limit kind Null form is = refl
 text_form limit kind (Truth b) form is = let e = ap family form in cc
 text_form limit kind (Number a m) form is = absurd (no_number kind a m form is)
+text_form limit kind (Day d) form is = let e = ap family form.0 in cc
 text_form limit kind (Text bytes) form is = refl
 
 no_literal : (kind : SqlType) (n m : ℕ) → IsNumberLiteral kind n m → IsText kind → ⊥
@@ -40,6 +44,7 @@ no_literal Integer n m h is = cc
 no_literal BigInt n m h is = cc
 no_literal HugeInt n m h is = cc
 no_literal (Decimal w s) n m h is = cc
+no_literal Date n m h is = h
 no_literal Varchar n m h is = h
 
 text_literal : (kind : SqlType) (v : Value) → IsLiteral kind v → IsText kind → v ≡ text_value (bytes_in v)
@@ -47,6 +52,7 @@ text_literal kind Null form is = absurd form
 text_literal kind (Truth b) form is = let e = ap family form in cc
 text_literal kind (Number (pos n) m) form is = absurd (no_literal kind n m form is)
 text_literal kind (Number (negsuc n) m) form is = absurd form
+text_literal kind (Day d) form is = let e = ap family form.0 in cc
 text_literal kind (Text bytes) form is = refl
 
 pub constant_text : (row : List Value) (e : Expr) (v : Value) (kind : SqlType) (o : Option (List ℕ)) → FitsRow e row → IsText (kind_of e)
@@ -62,7 +68,7 @@ pub column_text : (row : List Value) (e : Expr) (place : ℕ) (kind : SqlType) (
 column_text row e place kind v o fits text is read same =
     let n = opened row e (Expr-F.Column place kind) fits is in
     let k = kind_out e (Expr-F.Column place kind) is in
-    let at = meets_at n.limit n.columns row place kind n.meets n.node in
+    let at = meets_at (HasForm n.limit) n.columns row place kind n.meets n.node in
     let w = text_form n.limit kind (get_or row place Null) at.form (subst IsText k text) in
     let there = get_or_same row place v Null at.within read in
     rw (value_out row e (Expr-F.Column place kind) is, same, there) (ap Ok w)
@@ -75,15 +81,13 @@ text_node row e (Expr-F.Not of) fits text is a b = let k = kind_out e (Expr-F.No
 text_node row e (Expr-F.Minus of kind) fits text is a b =
     let k = kind_out e (Expr-F.Minus of kind) is in
     let f = ap family k in
-    let n = numeric_is_number kind (opened row e (Expr-F.Minus of kind) fits is).node.0 in
-    cc
+    absurd (amount_no_text kind (numeric_is_amount kind (opened row e (Expr-F.Minus of kind) fits is).node.0) (sym f ∙ text))
 text_node row e (Expr-F.Every list) fits text is a b = let k = kind_out e (Expr-F.Every list) is in let f = ap family k in cc
 text_node row e (Expr-F.Either list) fits text is a b = let k = kind_out e (Expr-F.Either list) is in let f = ap family k in cc
 text_node row e (Expr-F.Chain first links) fits text is a b =
     let f = ap family (chain_kind e first links is) in
     let n = opened row e (Expr-F.Chain first links) fits is in
-    let m = chain_number (kind_of first) links n.node.0 n.node.1 in
-    cc
+    absurd (amount_no_text _ (chain_amount (kind_of first) links n.node.0 n.node.1) (sym f ∙ text))
 text_node row e (Expr-F.Compare sign left right) fits text is a b = let k = kind_out e (Expr-F.Compare sign left right) is in let f = ap family k in cc
 text_node row e (Expr-F.IsNull of negated) fits text is a b = let k = kind_out e (Expr-F.IsNull of negated) is in let f = ap family k in cc
 text_node row e (Expr-F.Like of pattern negated) fits text is a b = let k = kind_out e (Expr-F.Like of pattern negated) is in let f = ap family k in cc

@@ -4,7 +4,7 @@ use Rattle.std.specs.Prelude.{pos, negsuc, Ok}
 use Rattle.std.specs.List.{AllByRecursion}
 use Rattle.ooc_types.specs.declared.truth.Truth.{Truth as Ternary}
 use Rattle.ooc_types.specs.declared.value.Value.{Value}
-use Rattle.ooc_types.specs.declared.value.Value.TheVariants.{Null, Truth, Number, Text}
+use Rattle.ooc_types.specs.declared.value.Value.TheVariants.{Null, Truth, Number, Day, Text}
 use Rattle.ooc_types.specs.declared.schema.SqlType.{SqlType}
 use Rattle.ooc_types.specs.declared.schema.SqlType.TheVariants.{Boolean}
 use Rattle.ooc_types.specs.Meets.{HasForm}
@@ -17,16 +17,19 @@ use Rattle.sql_expr.specs.Logic.{truth_value, truth_in}
 use Rattle.sql_expr.specs.Meaning.{value_of}
 use Rattle.sql_expr.specs.Kinds.{kind_of}
 use Rattle.sql_expr.specs.Ready.{AreConditions, AreComparable}
-use Rattle.sql_expr.specs.Typing.{FitsRow, IsLiteral, IsText, IsComparable, family}
+use Rattle.sql_expr.specs.Operations.{IsText, IsComparable, family}
+use Rattle.sql_expr.specs.Typing.{FitsRow, IsLiteral}
 use Rattle.sql_expr.proofs.Opened.{opened, meets_at, AllOf}
-use Rattle.sql_expr.proofs.Nodes.{value_out, kind_out, chain_kind, chain_number, numeric_is_number}
-use Rattle.sql_expr.proofs.Numbers.{get_or_same}
+use Rattle.sql_expr.proofs.Nodes.{value_out, kind_out, chain_kind, chain_amount, amount_no_truth}
+use Rattle.sql_expr.proofs.Linked.{numeric_is_amount}
+use Rattle.sql_expr.proofs.Amounts.{get_or_same}
 
 truth_form : (limit : ℕ) (v : Value) → HasForm limit Boolean v → v ≡ truth_value (truth_in v)
 truth_form limit Null form = refl
 truth_form limit (Truth true) form = refl
 truth_form limit (Truth false) form = refl
 truth_form limit (Number a m) form = absurd form
+truth_form limit (Day d) form = let e = form.0 in cc
 truth_form limit (Text bytes) form = let e = form.0 in cc
 
 truth_literal : (v : Value) → IsLiteral Boolean v → v ≡ truth_value (truth_in v)
@@ -35,6 +38,7 @@ truth_literal (Truth true) form = refl
 truth_literal (Truth false) form = refl
 truth_literal (Number (pos n) m) form = absurd form
 truth_literal (Number (negsuc n) m) form = absurd form
+truth_literal (Day d) form = let e = form.0 in cc
 truth_literal (Text bytes) form = cc
 
 pub constant_truth : (row : List Value) (e : Expr) (v : Value) (kind : SqlType) (t : Ternary) → FitsRow e row → kind_of e ≡ Boolean
@@ -50,23 +54,19 @@ pub column_truth : (row : List Value) (e : Expr) (place : ℕ) (kind : SqlType) 
 column_truth row e place kind v t fits condition is read same =
     let n = opened row e (Expr-F.Column place kind) fits is in
     let k = sym (kind_out e (Expr-F.Column place kind) is) ∙ condition in
-    let at = meets_at n.limit n.columns row place kind n.meets n.node in
+    let at = meets_at (HasForm n.limit) n.columns row place kind n.meets n.node in
     let w = truth_form n.limit (get_or row place Null) (subst (λ (x : SqlType). HasForm n.limit x (get_or row place Null)) k at.form) in
     let there = get_or_same row place v Null at.within read in
     rw (value_out row e (Expr-F.Column place kind) is, same, there) (ap Ok w)
 
-pub minus_is_number : (row : List Value) (e of : Expr) (kind : SqlType) → FitsRow e row → kind_of e ≡ Boolean → out-Expr e ≡ Expr-F.Minus of kind → ⊥
-minus_is_number row e of kind fits condition is =
-    let f = ap family (sym (kind_out e (Expr-F.Minus of kind) is) ∙ condition) in
-    let n = numeric_is_number kind (opened row e (Expr-F.Minus of kind) fits is).node.0 in
-    cc
+pub minus_is_amount : (row : List Value) (e of : Expr) (kind : SqlType) → FitsRow e row → kind_of e ≡ Boolean → out-Expr e ≡ Expr-F.Minus of kind → ⊥
+minus_is_amount row e of kind fits condition is =
+    amount_no_truth kind (numeric_is_amount kind (opened row e (Expr-F.Minus of kind) fits is).node.0) (sym (kind_out e (Expr-F.Minus of kind) is) ∙ condition)
 
-pub chain_is_number : (row : List Value) (e first : Expr) (links : List Link) → FitsRow e row → kind_of e ≡ Boolean → out-Expr e ≡ Expr-F.Chain first links → ⊥
-chain_is_number row e first links fits condition is =
-    let f = ap family (sym (chain_kind e first links is) ∙ condition) in
+pub chain_is_amount : (row : List Value) (e first : Expr) (links : List Link) → FitsRow e row → kind_of e ≡ Boolean → out-Expr e ≡ Expr-F.Chain first links → ⊥
+chain_is_amount row e first links fits condition is =
     let n = (opened row e (Expr-F.Chain first links) fits is).node in
-    let m = chain_number (kind_of first) links n.0 n.1 in
-    cc
+    amount_no_truth _ (chain_amount (kind_of first) links n.0 n.1) (sym (chain_kind e first links is) ∙ condition)
 
 pub not_operand : (row : List Value) (e of got : Expr) → FitsRow e row → out-Expr e ≡ Expr-F.Not of → got ≡ of → FitsRow got row × (kind_of got ≡ Boolean)
 not_operand row e of got fits is same =

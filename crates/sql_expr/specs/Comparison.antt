@@ -3,7 +3,7 @@ use Rattle.std.specs.Prelude.{Bool, true, false, ◌||◌, not, if◌then◌else
 use Rattle.std.specs.Ordering.{is_eq, is_lt, is_gt}
 use Rattle.std.specs.declared.cmp.Ordering.{Ordering}
 use Rattle.ooc_types.specs.declared.value.Value.{Value}
-use Rattle.ooc_types.specs.declared.value.Value.TheVariants.{Null, Truth, Number, Text}
+use Rattle.ooc_types.specs.declared.value.Value.TheVariants.{Null, Truth, Number, Day, Text}
 use Rattle.ooc_types.specs.Order.{value_cmp}
 use Rattle.sql_expr.specs.declared.tree.CompareSign.{CompareSign}
 use Rattle.sql_expr.specs.declared.tree.CompareSign.TheVariants.{Equal, Unequal, Less, AtMost, Greater, AtLeast}
@@ -21,6 +21,7 @@ abbrev pub is_null : Value → Bool
 is_null Null = true
 is_null (Truth truth) = false
 is_null (Number digits scale) = false
+is_null (Day day) = false
 is_null (Text bytes) = false
 
 -- by the order of values, and NULL where an operand is NULL

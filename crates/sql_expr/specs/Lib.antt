@@ -5,8 +5,11 @@ pub mod Like
 pub mod Arithmetic
 pub mod Meaning
 pub mod Kinds
+pub mod Operations
 pub mod Typing
 pub mod Outcomes
+pub mod Operands
 pub mod Ready
 pub mod Segments
 pub mod Plain
+pub mod Values

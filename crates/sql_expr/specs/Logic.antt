@@ -3,7 +3,7 @@ use Rattle.std.specs.Prelude.{Bool, true, false}
 use Rattle.ooc_types.specs.declared.truth.Truth.{Truth as Ternary}
 use Rattle.ooc_types.specs.declared.truth.Truth.TheVariants.{Yes, No, Unknown}
 use Rattle.ooc_types.specs.declared.value.Value.{Value}
-use Rattle.ooc_types.specs.declared.value.Value.TheVariants.{Null, Truth, Number, Text}
+use Rattle.ooc_types.specs.declared.value.Value.TheVariants.{Null, Truth, Number, Day, Text}
 
 abbrev pub not_truth : Ternary → Ternary
 not_truth Yes = No
@@ -35,6 +35,7 @@ truth_in (Truth true) = Yes
 truth_in (Truth false) = No
 truth_in Null = Unknown
 truth_in (Number digits scale) = Unknown
+truth_in (Day day) = Unknown
 truth_in (Text bytes) = Unknown
 
 -- NOT of a truth where `negated` says so

@@ -72,9 +72,9 @@ chain_from (Ok v) (link ∷ links) = chain_from (linked (Ok v) link) links
 abbrev pub comparison : CompareSign → Meaning → Meaning → Meaning
 comparison sign m n = then_value m (λ v. then_value n (λ w. Ok (compared sign v w)))
 
--- the OR chain of equalities
+-- the OR chain of equalities of a value, which is evaluated first
 abbrev pub one_of : Meaning → List Meaning → Meaning
-one_of m constants = either_from (Ok (Truth false)) (map (comparison Equal m) constants)
+one_of m constants = then_value m (λ v. either_from (Ok (Truth false)) (map (comparison Equal (Ok v)) constants))
 
 -- `a >= x AND a <= y`
 abbrev pub between : Meaning → Meaning → Meaning → Meaning

@@ -2,12 +2,13 @@
 use Rattle.std.specs.Prelude.{◌≡◌, ℕ, ℤ, List, Option, Some, None, Result, Ok, Err, ⊤}
 use Rattle.ooc_types.specs.declared.truth.Truth.{Truth as Ternary}
 use Rattle.ooc_types.specs.declared.value.Value.{Value}
-use Rattle.ooc_types.specs.declared.value.Value.TheVariants.{Null, Truth, Number, Text}
+use Rattle.ooc_types.specs.declared.value.Value.TheVariants.{Null, Truth, Number, Day, Text}
+use Rattle.ooc_types.specs.declared.schema.SqlType.{SqlType}
 use Rattle.sql_expr.specs.declared.fault.ValueFault.{ValueFault}
 use Rattle.sql_expr.specs.declared.fault.ValueFault.TheVariants.{Overflow}
 use Rattle.sql_expr.specs.declared.fault.EvalFault.{EvalFault}
 use Rattle.sql_expr.specs.declared.fault.EvalFault.TheVariants.{Fault, OutOfMemory}
-use Rattle.sql_expr.specs.Arithmetic.{Meaning}
+use Rattle.sql_expr.specs.Arithmetic.{Meaning, amount}
 use Rattle.sql_expr.specs.Logic.{truth_value}
 
 -- a truth, or a fault
@@ -15,14 +16,14 @@ abbrev pub truth_meaning : Result Ternary ValueFault → Meaning
 truth_meaning (Err fault) = Err fault
 truth_meaning (Ok truth) = Ok (truth_value truth)
 
--- the digits of a number at this scale, or NULL
-abbrev pub number_value : ℕ → Option ℤ → Value
-number_value scale None = Null
-number_value scale (Some digits) = Number digits scale
+-- the digits of an amount of a type, or NULL
+abbrev pub amount_value : SqlType → Option ℤ → Value
+amount_value kind None = Null
+amount_value kind (Some digits) = amount kind digits
 
-abbrev pub number_meaning : ℕ → Result (Option ℤ) ValueFault → Meaning
-number_meaning scale (Err fault) = Err fault
-number_meaning scale (Ok number) = Ok (number_value scale number)
+abbrev pub amount_meaning : SqlType → Result (Option ℤ) ValueFault → Meaning
+amount_meaning kind (Err fault) = Err fault
+amount_meaning kind (Ok digits) = Ok (amount_value kind digits)
 
 -- the value or the fault, or want of memory
 abbrev pub Tells : Meaning → Result Value EvalFault → Type 0
@@ -30,9 +31,10 @@ Tells meaning (Err OutOfMemory) = ⊤
 Tells meaning (Err (Fault fault)) = meaning ≡ Err fault
 Tells meaning (Ok value) = meaning ≡ Ok value
 
--- the digits of a number, and none of another value
+-- the digits of a number or the number of a day, and none of another value
 abbrev pub digits_of : Value → Option ℤ
 digits_of (Number digits scale) = Some digits
+digits_of (Day day) = Some day
 digits_of Null = None
 digits_of (Truth truth) = None
 digits_of (Text bytes) = None
@@ -53,3 +55,4 @@ bytes_in (Text bytes) = Some bytes
 bytes_in Null = None
 bytes_in (Truth truth) = None
 bytes_in (Number digits scale) = None
+bytes_in (Day day) = None

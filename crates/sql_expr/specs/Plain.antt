@@ -1,7 +1,7 @@
 -- Plain conditions, which can't fault.
 use Rattle.std.specs.Prelude.{Bool, true, false, ◌&&◌, List, [], ◌∷◌, Ok, Err, ⊤}
 use Rattle.ooc_types.specs.declared.schema.SqlType.{SqlType}
-use Rattle.ooc_types.specs.declared.schema.SqlType.TheVariants.{Boolean, Integer, BigInt, HugeInt, Decimal, Varchar}
+use Rattle.ooc_types.specs.declared.schema.SqlType.TheVariants.{Boolean, Integer, BigInt, HugeInt, Decimal, Date, Varchar}
 use Rattle.sql_expr.specs.declared.tree.Expr.{Expr}
 use Rattle.sql_expr.specs.declared.tree.Link.{Link}
 use Rattle.sql_expr.specs.declared.tree.Expr.TheOpen.{Expr-F, Link-F}
@@ -21,6 +21,7 @@ is_boolean Integer = false
 is_boolean BigInt = false
 is_boolean HugeInt = false
 is_boolean (Decimal width scale) = false
+is_boolean Date = false
 is_boolean Varchar = false
 
 abbrev pub all_operands : List Plainness → Bool

@@ -6,7 +6,8 @@ use Rattle.ooc_types.specs.declared.schema.SqlType.TheVariants.{Boolean}
 use Rattle.sql_expr.specs.declared.tree.Expr.{Expr}
 use Rattle.sql_expr.specs.declared.tree.Link.{Link}
 use Rattle.sql_expr.specs.Kinds.{kind_of}
-use Rattle.sql_expr.specs.Typing.{FitsRow, IsLinked, IsComparable}
+use Rattle.sql_expr.specs.Operations.{IsLinked, IsComparable}
+use Rattle.sql_expr.specs.Typing.{FitsRow}
 
 -- the links of a chain that has this type before them
 abbrev pub AreReady : List Value → SqlType → List Link → Type 0

@@ -1,4 +1,4 @@
-//! Comparisons of numbers, texts and truths.
+//! Comparisons of amounts, texts and truths.
 ghost use Rattle.std.specs.Prelude.{◌≡◌, Ok};
 ghost use Rattle.std.specs.Option.{option_copied};
 ghost use Rattle.ooc_types.specs.Order.{value_cmp};
@@ -7,15 +7,17 @@ ghost use Rattle.sql_expr.specs.Comparison.{compared};
 ghost use Rattle.sql_expr.specs.Kinds.{kind_of as type_of};
 ghost use Rattle.sql_expr.specs.Logic.{truth_value};
 ghost use Rattle.sql_expr.specs.Meaning.{value_of, comparison};
-ghost use Rattle.sql_expr.specs.Outcomes.{number_value, text_value, truth_meaning};
-ghost use Rattle.sql_expr.specs.Typing.{FitsRow, IsNumber};
+ghost use Rattle.sql_expr.specs.Outcomes.{amount_value, text_value, truth_meaning};
+ghost use Rattle.sql_expr.specs.Arithmetic.{amount};
+ghost use Rattle.sql_expr.specs.Operations.{IsAmount, IsComparable};
+ghost use Rattle.sql_expr.specs.Typing.{FitsRow};
 
+use crate::amount::amount_of;
 use crate::fault::ValueFault;
 use crate::kinds::{kind_of, scale};
 use crate::logic::{known, sign_holds};
-use crate::number::number_of;
 use crate::tree::{CompareSign, Expr};
-use ooc_types::{Truth, Value, cmp_values, numbers_compare_by_value};
+use ooc_types::{SqlType, Truth, Value, cmp_values, numbers_compare_by_value};
 use std::cmp::Ordering;
 
 fn cmp_numbers(a: i128, a_scale: u8, b: i128, b_scale: u8) -> Ordering
@@ -36,18 +38,35 @@ fn cmp_numbers(a: i128, a_scale: u8, b: i128, b_scale: u8) -> Ordering
     cmp_values(&left, &right)
 }
 
-fn compare_numbers(
-    sign: CompareSign,
-    a: Option<i128>,
-    a_scale: u8,
-    b: Option<i128>,
-    b_scale: u8,
-) -> Truth
-    ensures { truth_value result ≡ compared sign (number_value a_scale a) (number_value b_scale b) }
+// The order of two amounts of comparable types.
+fn cmp_amounts(a: i128, left: SqlType, b: i128, right: SqlType) -> Ordering
+    requires amount { IsAmount left }
+    requires comparable { IsComparable left right }
+    ensures { result ≡ value_cmp (amount left a) (amount right b) }
 {
-    match (a, b) {
-        (Some(a), Some(b)) => known(sign_holds(sign, cmp_numbers(a, a_scale, b, b_scale))),
-        _ => Truth::Unknown,
+    match left {
+        SqlType::Date => a.cmp(&b),
+        _ => cmp_numbers(a, scale(left), b, scale(right)),
+    }
+}
+
+/// The comparison of an amount of a type, or NULL, with an expression.
+pub fn compare_amount(
+    sign: CompareSign,
+    left: Option<i128>,
+    kind: SqlType,
+    right: &Expr,
+    row: &[Value],
+) -> Result<Truth, ValueFault>
+    requires amount { IsAmount kind }
+    requires right_fits { FitsRow right.now row.now }
+    requires comparable { IsComparable kind (type_of right.now) }
+    ensures { comparison sign (Ok (amount_value kind left)) (value_of row.now right.now) ≡ truth_meaning result }
+{
+    let other = kind_of(right);
+    match (left, amount_of(right, row)?) {
+        (Some(a), Some(b)) => Ok(known(sign_holds(sign, cmp_amounts(a, kind, b, other)))),
+        _ => Ok(Truth::Unknown),
     }
 }
 
@@ -75,7 +94,7 @@ pub fn compare_truths(sign: CompareSign, a: Truth, b: Truth) -> Truth
     }
 }
 
-/// The comparison of two expressions that are numbers.
+/// The comparison of two expressions that are amounts.
 pub fn compare_amounts(
     sign: CompareSign,
     left: &Expr,
@@ -83,13 +102,11 @@ pub fn compare_amounts(
     row: &[Value],
 ) -> Result<Truth, ValueFault>
     requires left_fits { FitsRow left.now row.now }
-    requires left_number { IsNumber (type_of left.now) }
+    requires left_amount { IsAmount (type_of left.now) }
     requires right_fits { FitsRow right.now row.now }
-    requires right_number { IsNumber (type_of right.now) }
+    requires comparable { IsComparable (type_of left.now) (type_of right.now) }
     ensures { comparison sign (value_of row.now left.now) (value_of row.now right.now) ≡ truth_meaning result }
 {
-    let a = number_of(left, row)?;
-    let b = number_of(right, row)?;
-    let truth = compare_numbers(sign, a, scale(kind_of(left)), b, scale(kind_of(right)));
-    Ok(truth)
+    let a = amount_of(left, row)?;
+    compare_amount(sign, a, kind_of(left), right, row)
 }

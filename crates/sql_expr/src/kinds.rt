@@ -16,6 +16,7 @@ pub fn scale(kind: SqlType) -> u8
         | SqlType::Integer
         | SqlType::BigInt
         | SqlType::HugeInt
+        | SqlType::Date
         | SqlType::Varchar => 0,
     }
 }

@@ -69,12 +69,13 @@ pub fn sign_holds(sign: CompareSign, ordering: Ordering) -> bool
     }
 }
 
-/// The digits of a number, and none of another value.
+/// The digits of a number or the number of a day, and none of another value.
 pub fn digits_in(value: &Value) -> Option<i128>
     ensures { result ≡ digits_of value.now }
 {
     match value {
         Value::Number { digits, .. } => Some(*digits),
+        Value::Day(day) => Some(i128::from(*day)),
         Value::Null | Value::Truth(_) | Value::Text(_) => None,
     }
 }
@@ -85,6 +86,6 @@ pub fn truth_in(value: &Value) -> Truth
 {
     match value {
         Value::Truth(holds) => known(*holds),
-        Value::Null | Value::Number { .. } | Value::Text(_) => Truth::Unknown,
+        Value::Null | Value::Number { .. } | Value::Day(_) | Value::Text(_) => Truth::Unknown,
     }
 }

@@ -1,10 +1,6 @@
 //! Plain conditions, which can't fault.
-ghost use Rattle.std.specs.Prelude.{◌≡◌, List, IsTrue, map};
-ghost use Rattle.ooc_types.specs.declared.value.Value.{Value as SqlValue};
-ghost use Rattle.sql_expr.specs.declared.tree.Expr.{Expr as Tree};
-ghost use Rattle.sql_expr.specs.Meaning.{value_of};
-ghost use Rattle.sql_expr.specs.Plain.{plainness, all_operands as are_operands, all_conditions as are_conditions, IsFaultless};
-ghost use Rattle.sql_expr.specs.Typing.{FitsRow};
+ghost use Rattle.std.specs.Prelude.{◌≡◌, map};
+ghost use Rattle.sql_expr.specs.Plain.{plainness, all_operands as are_operands, all_conditions as are_conditions};
 
 use crate::tree::Expr;
 use ooc_types::SqlType;
@@ -72,8 +68,3 @@ pub fn is_plain(expr: &Expr) -> bool
         }
     }
 }
-
-/// A plain condition has a value over each row that it fits. The function does nothing; its contract is the law.
-pub fn plain_conditions_have_values()
-    ensures { (expr : Tree) (row : List SqlValue) → FitsRow expr row → IsTrue (plainness expr).condition → IsFaultless (value_of row expr) }
-{}

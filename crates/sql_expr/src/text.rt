@@ -4,7 +4,8 @@ ghost use Rattle.std.specs.Option.{option_copied};
 ghost use Rattle.sql_expr.specs.Kinds.{kind_of as type_of};
 ghost use Rattle.sql_expr.specs.Meaning.{value_of};
 ghost use Rattle.sql_expr.specs.Outcomes.{text_value, bytes_in};
-ghost use Rattle.sql_expr.specs.Typing.{FitsRow, IsText};
+ghost use Rattle.sql_expr.specs.Operations.{IsText};
+ghost use Rattle.sql_expr.specs.Typing.{FitsRow};
 
 use crate::tree::Expr;
 use ooc_types::Value;
@@ -15,7 +16,7 @@ pub fn text_in(value: &Value) -> Option<&[u8]>
 {
     match value {
         Value::Text(text) => Some(text.as_bytes()),
-        Value::Null | Value::Truth(_) | Value::Number { .. } => None,
+        Value::Null | Value::Truth(_) | Value::Number { .. } | Value::Day(_) => None,
     }
 }
 

@@ -1,19 +1,22 @@
 //! The values of expressions that are BOOLEAN.
-ghost use Rattle.std.specs.Prelude.{◌≡◌, Ok, true, false, map};
+ghost use Rattle.std.specs.Prelude.{◌≡◌, Ok, IfOk, true, false, map};
 ghost use Rattle.std.specs.Option.{option_copied};
 ghost use Rattle.sql_expr.specs.Kinds.{kind_of as type_of};
 ghost use Rattle.sql_expr.specs.Logic.{truth_value, not_truth};
 ghost use Rattle.sql_expr.specs.Meaning.{value_of, comparison, then_value, perhaps_not, null_test as tested, liked, every_from, either_from, one_of as one_among, between as in_between, tested_null};
 ghost use Rattle.sql_expr.specs.Outcomes.{truth_meaning, text_value};
+ghost use Rattle.sql_expr.specs.Operands.{IsOperandOf, operand_value, operand_meaning};
 ghost use Rattle.sql_expr.specs.Ready.{AreConditions, AreComparable};
-ghost use Rattle.sql_expr.specs.Typing.{FitsRow, IsComparable, IsText};
+ghost use Rattle.sql_expr.specs.Operations.{IsComparable, IsText};
+ghost use Rattle.sql_expr.specs.Typing.{FitsRow};
 ghost use Rattle.ooc_types.specs.declared.value.Value.TheVariants.{Truth as of_truth};
 
-use crate::compare::{compare_amounts, compare_texts, compare_truths};
+use crate::amount::amount_of;
+use crate::compare::{compare_amount, compare_amounts, compare_texts, compare_truths};
 use crate::fault::ValueFault;
 use crate::kinds::kind_of;
 use crate::logic::{both, known, one, opposite_truth, perhaps_opposite, truth_in};
-use crate::number::number_of;
+use crate::operand::Operand;
 use crate::text::text_of;
 use crate::tree::{CompareSign, Expr};
 use crate::wildcards::like;
@@ -68,9 +71,11 @@ fn compare(sign: CompareSign, left: &Expr, right: &Expr, row: &[Value]) -> Resul
     match kind_of(left) {
         SqlType::Boolean => compare_conditions(sign, left, right, row),
         SqlType::Varchar => Ok(compare_texts(sign, text_of(left, row), text_of(right, row))),
-        SqlType::Integer | SqlType::BigInt | SqlType::HugeInt | SqlType::Decimal { .. } => {
-            compare_amounts(sign, left, right, row)
-        }
+        SqlType::Integer
+        | SqlType::BigInt
+        | SqlType::HugeInt
+        | SqlType::Decimal { .. }
+        | SqlType::Date => compare_amounts(sign, left, right, row),
     }
 }
 
@@ -85,11 +90,14 @@ fn null_test(of: &Expr, negated: bool, row: &[Value]) -> Result<Truth, ValueFaul
             Err(fault) => Err(fault),
         },
         SqlType::Varchar => Ok(null_truth(negated, text_of(of, row).is_none())),
-        SqlType::Integer | SqlType::BigInt | SqlType::HugeInt | SqlType::Decimal { .. } =>
-            match number_of(of, row) {
-                Ok(number) => Ok(null_truth(negated, number.is_none())),
-                Err(fault) => Err(fault),
-            },
+        SqlType::Integer
+        | SqlType::BigInt
+        | SqlType::HugeInt
+        | SqlType::Decimal { .. }
+        | SqlType::Date => match amount_of(of, row) {
+            Ok(digits) => Ok(null_truth(negated, digits.is_none())),
+            Err(fault) => Err(fault),
+        },
     }
 }
 
@@ -131,16 +139,67 @@ fn either(list: &[Expr], row: &[Value]) -> Result<Truth, ValueFault>
     Ok(any)
 }
 
+#[cycle(truth)]
+fn operand_of<'a>(expr: &'a Expr, row: &'a [Value]) -> Result<Operand<'a>, ValueFault>
+    requires { FitsRow expr.now row.now }
+    ensures value { value_of row.now expr.now ≡ operand_meaning result }
+    ensures kind { IfOk result (λ operand. IsOperandOf (type_of expr.now) operand) }
+{
+    match kind_of(expr) {
+        SqlType::Boolean => match truth_of(expr, row) {
+            Ok(truth) => Ok(Operand::Truth(truth)),
+            Err(fault) => Err(fault),
+        },
+        SqlType::Varchar => Ok(Operand::Text(text_of(expr, row))),
+        SqlType::Integer
+        | SqlType::BigInt
+        | SqlType::HugeInt
+        | SqlType::Decimal { .. }
+        | SqlType::Date => match amount_of(expr, row) {
+            Ok(digits) => Ok(Operand::Amount {
+                digits,
+                kind: kind_of(expr),
+            }),
+            Err(fault) => Err(fault),
+        },
+    }
+}
+
+// The comparison of an operand of the type with an expression.
+#[cycle(truth)]
+fn compare_operand(
+    sign: CompareSign,
+    left: &Operand<'_>,
+    kind: SqlType,
+    right: &Expr,
+    row: &[Value],
+) -> Result<Truth, ValueFault>
+    requires left_kind { IsOperandOf kind left.now }
+    requires right_fits { FitsRow right.now row.now }
+    requires comparable { IsComparable kind (type_of right.now) }
+    ensures { comparison sign (Ok (operand_value left.now)) (value_of row.now right.now) ≡ truth_meaning result }
+{
+    match left {
+        Operand::Truth(a) => match truth_of(right, row) {
+            Ok(b) => Ok(compare_truths(sign, *a, b)),
+            Err(fault) => Err(fault),
+        },
+        Operand::Amount { digits, kind } => compare_amount(sign, *digits, *kind, right, row),
+        Operand::Text(a) => Ok(compare_texts(sign, *a, text_of(right, row))),
+    }
+}
+
 // OR of the equalities with the constants, from left to right up to the first that is true.
 #[cycle(truth)]
-fn one_of(of: &Expr, list: &[Expr], row: &[Value]) -> Result<Truth, ValueFault>
-    requires fits { FitsRow of.now row.now }
-    requires comparable { AreComparable row.now (type_of of.now) list.now }
-    ensures { one_among (value_of row.now of.now) (map (value_of row.now) list.now) ≡ truth_meaning result }
+fn among(of: &Operand<'_>, kind: SqlType, list: &[Expr], row: &[Value]) -> Result<Truth, ValueFault>
+    requires kind { IsOperandOf kind of.now }
+    requires comparable { AreComparable row.now kind list.now }
+    ensures { either_from (Ok (of_truth false)) (map (comparison CompareSign.Equal (Ok (operand_value of.now))) (map (value_of row.now) list.now))
+        ≡ truth_meaning result }
 {
     let mut found = Truth::No;
     for constant in list {
-        match compare(CompareSign::Equal, of, constant, row) {
+        match compare_operand(CompareSign::Equal, of, kind, constant, row) {
             Ok(truth) => found = one(found, truth),
             Err(fault) => return Err(fault),
         }
@@ -152,6 +211,44 @@ fn one_of(of: &Expr, list: &[Expr], row: &[Value]) -> Result<Truth, ValueFault>
 }
 
 #[cycle(truth)]
+fn one_of(of: &Expr, list: &[Expr], row: &[Value]) -> Result<Truth, ValueFault>
+    requires fits { FitsRow of.now row.now }
+    requires comparable { AreComparable row.now (type_of of.now) list.now }
+    ensures { one_among (value_of row.now of.now) (map (value_of row.now) list.now) ≡ truth_meaning result }
+{
+    match operand_of(of, row) {
+        Ok(operand) => among(&operand, kind_of(of), list, row),
+        Err(fault) => Err(fault),
+    }
+}
+
+// Whether an operand lies between two bounds. Where it lies below the first, the second isn't evaluated.
+#[cycle(truth)]
+fn within(
+    of: &Operand<'_>,
+    kind: SqlType,
+    low: &Expr,
+    high: &Expr,
+    row: &[Value],
+) -> Result<Truth, ValueFault>
+    requires kind { IsOperandOf kind of.now }
+    requires low_fits { FitsRow low.now row.now }
+    requires low_comparable { IsComparable kind (type_of low.now) }
+    requires high_fits { FitsRow high.now row.now }
+    requires high_comparable { IsComparable kind (type_of high.now) }
+    ensures { in_between (Ok (operand_value of.now)) (value_of row.now low.now) (value_of row.now high.now) ≡ truth_meaning result }
+{
+    match compare_operand(CompareSign::AtLeast, of, kind, low, row) {
+        Ok(Truth::No) => Ok(Truth::No),
+        Ok(above) => match compare_operand(CompareSign::AtMost, of, kind, high, row) {
+            Ok(below) => Ok(both(above, below)),
+            Err(fault) => Err(fault),
+        },
+        Err(fault) => Err(fault),
+    }
+}
+
+#[cycle(truth)]
 fn between(of: &Expr, low: &Expr, high: &Expr, row: &[Value]) -> Result<Truth, ValueFault>
     requires fits { FitsRow of.now row.now }
     requires low_fits { FitsRow low.now row.now }
@@ -160,12 +257,8 @@ fn between(of: &Expr, low: &Expr, high: &Expr, row: &[Value]) -> Result<Truth, V
     requires high_comparable { IsComparable (type_of of.now) (type_of high.now) }
     ensures { in_between (value_of row.now of.now) (value_of row.now low.now) (value_of row.now high.now) ≡ truth_meaning result }
 {
-    match compare(CompareSign::AtLeast, of, low, row) {
-        Ok(Truth::No) => Ok(Truth::No),
-        Ok(above) => match compare(CompareSign::AtMost, of, high, row) {
-            Ok(below) => Ok(both(above, below)),
-            Err(fault) => Err(fault),
-        },
+    match operand_of(of, row) {
+        Ok(operand) => within(&operand, kind_of(of), low, high, row),
         Err(fault) => Err(fault),
     }
 }

@@ -8,3 +8,4 @@ pub mod Parts
 pub mod GapParts
 pub mod CoverLemmas
 pub mod DecimalLemmas
+pub mod ProperLemmas

@@ -1,5 +1,5 @@
 -- What tokens stand for.
-use Rattle.std.specs.Prelude.{ℕ, ℤ, pos, ◌+◌, ◌-◌, ◌++◌, take, drop, nat_le, ◌^◌, List, length, Bool, ◌&&◌, ◌==◌, nat_lt, slice_index, slice_range, Option, None, Some, if◌then◌else◌}
+use Rattle.std.specs.Prelude.{◌≡◌, ◌<◌, ◌≤◌, ◌⊎◌, ℕ, ℤ, pos, ◌+◌, ◌-◌, ◌++◌, take, drop, nat_le, ◌^◌, List, length, Bool, ◌&&◌, ◌==◌, nat_lt, slice_index, slice_range, Option, None, Some, if◌then◌else◌}
 use Rattle.std.specs.Str.Parse.{digits_value}
 use Rattle.sql_lex.specs.declared.values.DecimalValue.{DecimalValue}
 use Rattle.sql_lex.specs.Numbers.{digits_length, begins_with_number, begins_with_point, decimal_width}
@@ -28,3 +28,14 @@ abbrev pub decimal_value : List ℕ → Option DecimalValue
 decimal_value text = let n = digits_length text in
     let fraction = drop (n + 1) text in
     if is_decimal text then Some (record { digits = pos (digits_value 10 (take n text ++ fraction)); scale = length fraction; width = decimal_width text fraction }) else None
+
+-- What the value of a decimal is like: its digits aren't negative and fit the width, which is from 1 to 38 and not less than the scale;
+-- and it is the least such width, or the number's first digit isn't zero.
+pub record IsProperDecimal (d : DecimalValue) : Type 0 where
+  pub number : ℕ
+  pub written : d.digits ≡ pos number
+  pub some_digit : 1 ≤ d.width
+  pub places : d.scale ≤ d.width
+  pub small : number < 10 ^ d.width
+  pub most : d.width ≤ 38
+  pub least : (d.width ≡ 1) ⊎ (d.width ≡ d.scale) ⊎ (10 ^ (d.width - 1) ≤ number)

@@ -3,6 +3,7 @@
 
 mod fault;
 mod gaps;
+mod laws;
 mod lexer;
 mod names;
 mod numbers;
@@ -14,6 +15,7 @@ mod values;
 mod words;
 
 pub use fault::LexFault;
+pub use laws::a_decimal_is_proper;
 pub use lexer::lex;
 pub use quotes::quoted_texts;
 pub use token::{Sign, Token, TokenKind, Tokens, Word};

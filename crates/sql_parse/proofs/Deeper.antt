@@ -1,10 +1,10 @@
 -- What is read one level deeper.
 use Rattle.std.proofs.Common.{◌≡◌, ◌≢◌, ℕ, zero, suc, ◌-◌, List, Err, refl, ap, arith}
-use Rattle.sql_parse.specs.Lexeme.{Lexeme, tail}
-use Rattle.sql_parse.specs.declared.fault.Fault.TheVariants.{TooDeep}
-use Rattle.sql_parse.specs.Form.{Sort}
-use Rattle.sql_parse.specs.Reading.{opened, read}
-use Rattle.sql_parse.specs.Nesting.{body, readers}
+use Rattle.sql_grammar.specs.Lexeme.{Lexeme, tail}
+use Rattle.sql_grammar.specs.declared.fault.Fault.TheVariants.{TooDeep}
+use Rattle.sql_grammar.specs.Form.{Sort}
+use Rattle.sql_grammar.specs.Reading.{opened, read}
+use Rattle.sql_grammar.specs.Nesting.{body, readers}
 
 pub opened_is : (depth : ℕ) (s : Sort) (w : List Lexeme) → depth ≢ 0 → opened (readers depth s) w ≡ read (readers (depth - 1)) (body s) (tail w)
 unfolding readers

@@ -1,16 +1,5 @@
-mod Sets
-mod Firsts
-mod Laws
-mod ManyLaws
-mod Forms
-mod Lasts
-mod Tame
-mod Grown
-mod Rules
-mod Exact
-mod Turning
-mod Deeper
-mod Going
-mod Lists
-mod Scripts
-mod Unique
+pub mod Turning
+pub mod Deeper
+pub mod Going
+pub mod Lists
+pub mod Scripts

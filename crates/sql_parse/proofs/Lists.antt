@@ -1,13 +1,13 @@
 -- Loops over `p { "," p }`, and over the links of a chain.
 use Rattle.std.proofs.Common.{◌≡◌, ◌≢◌, ℕ, ◌<◌, List, [], ◌∷◌, ◌++◌, length, Option, None, Some, Ok, Err, Bool, true, false, refl, sym, ◌∙◌, ap, subst, append_assoc, if◌then◌else◌}
 use Rattle.sql_lex.specs.declared.token.Sign.TheVariants as g
-use Rattle.sql_parse.specs.Lexeme.{Lexeme, first, tail, sees, lexeme_at}
-use Rattle.sql_parse.specs.declared.fault.Fault.{Fault}
-use Rattle.sql_parse.specs.declared.fault.Fault.TheVariants.{Syntax}
-use Rattle.sql_parse.specs.Form.{Form, many}
-use Rattle.sql_parse.specs.Reading.{Outcome, and_then, begins, many_from, Readers, read}
-use Rattle.sql_parse.specs.Classes.{sign_class}
-use Rattle.sql_parse.specs.Combinators.{◌>>◌, sign, list}
+use Rattle.sql_grammar.specs.Lexeme.{Lexeme, first, tail, sees, lexeme_at}
+use Rattle.sql_grammar.specs.declared.fault.Fault.{Fault}
+use Rattle.sql_grammar.specs.declared.fault.Fault.TheVariants.{Syntax}
+use Rattle.sql_grammar.specs.Form.{Form, many}
+use Rattle.sql_grammar.specs.Reading.{Outcome, and_then, begins, many_from, Readers, read}
+use Rattle.sql_grammar.specs.Classes.{sign_class}
+use Rattle.sql_grammar.specs.Combinators.{◌>>◌, sign, list}
 use Rattle.sql_parse.proofs.Turning.{SoFar, started, stepped, failed, ended}
 
 append_nil : {A : Type 0} (u : List A) → u ++ [] ≡ u

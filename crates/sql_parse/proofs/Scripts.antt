@@ -1,15 +1,15 @@
 -- The loop over statements.
 use Rattle.std.proofs.Common.{◌≡◌, ◌<◌, List, [], ◌∷◌, ◌++◌, length, Option, None, Some, Ok, Err, Bool, true, false, refl, sym, ◌∙◌, ap, subst, append_assoc, if◌then◌else◌}
 use Rattle.sql_lex.specs.declared.token.Sign.TheVariants as g
-use Rattle.sql_parse.specs.Lexeme.{Lexeme, first, tail, sees, lexeme_at}
-use Rattle.sql_parse.specs.declared.fault.Fault.{Fault}
-use Rattle.sql_parse.specs.declared.fault.Fault.TheVariants.{Syntax}
-use Rattle.sql_parse.specs.declared.tree.statement.Statement.{Statement}
-use Rattle.sql_parse.specs.declared.tree.statement.Script.{Script}
-use Rattle.sql_parse.specs.Reading.{Outcome, and_then, many_from, Readers, read}
-use Rattle.sql_parse.specs.Classes.{sign_class}
-use Rattle.sql_parse.specs.Combinators.{◌>>◌, sign, optional}
-use Rattle.sql_parse.specs.Statements.{statement, present, script}
+use Rattle.sql_grammar.specs.Lexeme.{Lexeme, first, tail, sees, lexeme_at}
+use Rattle.sql_grammar.specs.declared.fault.Fault.{Fault}
+use Rattle.sql_grammar.specs.declared.fault.Fault.TheVariants.{Syntax}
+use Rattle.sql_grammar.specs.declared.tree.statement.Statement.{Statement}
+use Rattle.sql_grammar.specs.declared.tree.statement.Script.{Script}
+use Rattle.sql_grammar.specs.Reading.{Outcome, and_then, many_from, Readers, read}
+use Rattle.sql_grammar.specs.Classes.{sign_class}
+use Rattle.sql_grammar.specs.Combinators.{◌>>◌, sign, optional}
+use Rattle.sql_grammar.specs.Statements.{statement, present, script}
 use Rattle.sql_parse.proofs.Turning.{SoFar, started, stepped, failed, ended}
 
 append_nil : {A : Type 0} (u : List A) → u ++ [] ≡ u

@@ -1,8 +1,8 @@
 -- A loop that reads a rule as often as it comes, beside the reading of all of it.
 use Rattle.std.proofs.Common.{◌≡◌, ℕ, zero, suc, ◌≤◌, ◌<◌, List, [], ◌∷◌, length, Option, None, Ok, Err, Bool, true, false, refl, sym, ◌∙◌, ap, arith, if◌then◌else◌}
-use Rattle.sql_parse.specs.Lexeme.{Lexeme, first}
-use Rattle.sql_parse.specs.declared.fault.Fault.{Fault}
-use Rattle.sql_parse.specs.Reading.{Outcome, and_then, many_from}
+use Rattle.sql_grammar.specs.Lexeme.{Lexeme, first}
+use Rattle.sql_grammar.specs.declared.fault.Fault.{Fault}
+use Rattle.sql_grammar.specs.Reading.{Outcome, and_then, many_from}
 
 -- The whole is what comes of the values from here on.
 pub record SoFar {A C : Type 0} (starts : Option Lexeme → Bool) (p : List Lexeme → Outcome A) (whole : Outcome C) (f : List A → C) (w : List Lexeme) : Type 0 where

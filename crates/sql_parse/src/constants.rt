@@ -1,15 +1,15 @@
 //! Lists of constants.
 ghost use Rattle.std.specs.Prelude.{◌≤◌, length};
-ghost use Rattle.sql_parse.specs.Reading.{read};
-ghost use Rattle.sql_parse.specs.Combinators.{list};
-ghost use Rattle.sql_parse.specs.Nesting.{readers};
-ghost use Rattle.sql_parse.specs.Whole.{Gives};
-ghost use Rattle.sql_parse.specs.Expressions as form;
+ghost use Rattle.sql_grammar.specs.Reading.{read};
+ghost use Rattle.sql_grammar.specs.Combinators.{list};
+ghost use Rattle.sql_grammar.specs.Nesting.{readers};
+ghost use Rattle.sql_parse.specs.Gives.{Gives};
+ghost use Rattle.sql_grammar.specs.Expressions as form;
 
 use crate::cursor::Cursor;
-use crate::fault::Fault;
 use crate::leaves::constant;
-use crate::tree::Constant;
+use sql_grammar::Fault;
+use sql_grammar::tree::Constant;
 use sql_lex::Sign;
 use sqlite_items::Items;
 use std::alloc::Global;

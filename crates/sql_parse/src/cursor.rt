@@ -1,18 +1,19 @@
 //! A cursor over the tokens of a script.
 ghost use Rattle.std.specs.Prelude.{◌≡◌, ◌≢◌, ◌≤◌, ◌<◌, ◌↔◌, [], ◌∷◌, None, length, map, IsTrue, IsOk, Ok};
 ghost use Rattle.std.specs.Char.{to_ascii_lowercase};
-ghost use Rattle.sql_parse.specs.Lexeme.{first, tail, sees, is_among, lexeme_at};
-ghost use Rattle.sql_parse.specs.Lexemes.{lexemes, lexeme, name_class, is_spelled};
-ghost use Rattle.sql_parse.specs.Classes.{word_class, sign_class, names};
-ghost use Rattle.sql_parse.specs.Combinators.{span_of};
-ghost use Rattle.sql_parse.specs.Combinators as form;
-ghost use Rattle.sql_parse.specs.Reading.{read, sees_phrase};
-ghost use Rattle.sql_parse.specs.Verdict.{place_of};
-ghost use Rattle.sql_parse.specs.Nesting.{readers};
-ghost use Rattle.sql_parse.specs.Whole.{Gives};
+ghost use Rattle.sql_grammar.specs.Lexeme.{first, tail, sees, is_among, lexeme_at};
+ghost use Rattle.sql_grammar.specs.Lexemes.{lexemes, lexeme, name_class, parenthesis_class, is_spelled};
+ghost use Rattle.sql_grammar.specs.Classes.{word_class, sign_class, opens, names, other_names, date_class};
+ghost use Rattle.sql_grammar.specs.Form as rule;
+ghost use Rattle.sql_grammar.specs.Combinators.{span_of};
+ghost use Rattle.sql_grammar.specs.Combinators as form;
+ghost use Rattle.sql_grammar.specs.Reading.{read, sees_phrase};
+ghost use Rattle.sql_grammar.specs.Verdict.{place_of};
+ghost use Rattle.sql_grammar.specs.Nesting.{readers};
+ghost use Rattle.sql_parse.specs.Gives.{Gives};
 
-use crate::fault::Fault;
-use crate::tree::Span;
+use sql_grammar::Fault;
+use sql_grammar::tree::Span;
 use sql_lex::{Sign, Token, TokenKind, Word};
 use std::marker::Model;
 
@@ -25,8 +26,8 @@ pub(crate) struct Cursor<'a> {
 
 impl<'a> Model for Cursor<'a> {
     ghost use Rattle.std.specs.Prelude.{List};
-    ghost use Rattle.sql_parse.specs.Lexeme.{Lexeme};
-    ghost use Rattle.sql_parse.specs.Lexemes.{lexemes};
+    ghost use Rattle.sql_grammar.specs.Lexeme.{Lexeme};
+    ghost use Rattle.sql_grammar.specs.Lexemes.{lexemes};
 
     ghost Value = { List Lexeme };
 
@@ -101,6 +102,9 @@ fn sign_number(sign: Sign) -> u8
     }
 }
 
+/// The class of a parenthesis before SELECT.
+pub(crate) const QUERY: u8 = 56;
+
 pub(crate) const PLAIN: u8 = 60;
 
 pub(crate) const QUOTED: u8 = 61;
@@ -115,8 +119,10 @@ pub(crate) const INTEGER: u8 = 65;
 
 pub(crate) const DECIMAL: u8 = 66;
 
+pub(crate) const DATE: u8 = 67;
+
 /// Whether the token from `start` to before `end` is spelled with these small letters.
-#[tactic(auto, unfolding(crate::specs::Lexemes::is_spelled))]
+#[tactic(auto, unfolding(sql_grammar::specs::Lexemes::is_spelled))]
 fn is_spelled_so(script: &[u8], start: usize, end: usize, letters: &[u8]) -> bool
     requires { map to_ascii_lowercase letters.now ≡ letters.now }
     ensures { result ≡ is_spelled script.now start end letters.now }
@@ -125,7 +131,7 @@ fn is_spelled_so(script: &[u8], start: usize, end: usize, letters: &[u8]) -> boo
 }
 
 /// The class of a plain name.
-#[tactic(auto, unfolding(crate::specs::Lexemes::name_class))]
+#[tactic(auto, unfolding(sql_grammar::specs::Lexemes::name_class))]
 fn name_number(script: &[u8], start: usize, end: usize) -> u8
     ensures { result ≡ name_class script.now start end }
 {
@@ -133,14 +139,26 @@ fn name_number(script: &[u8], start: usize, end: usize) -> u8
         HEADER
     } else if is_spelled_so(script, start, end, b"delimiter") {
         DELIMITER
+    } else if is_spelled_so(script, start, end, b"date") {
+        DATE
     } else {
         PLAIN
     }
 }
 
-/// The class of a token.
-fn class_number(script: &[u8], token: &Token) -> u8
-    ensures { result ≡ (lexeme script.now token.now).class }
+/// The class of an opening parenthesis before these tokens.
+fn parenthesis_number(others: &[Token]) -> u8
+    ensures { result ≡ parenthesis_class others.now }
+{
+    match others.first() {
+        Some(token) if matches!(token.kind, TokenKind::Word(Word::Select)) => QUERY,
+        _ => sign_number(Sign::LeftParenthesis),
+    }
+}
+
+/// The class of a token before these others.
+fn class_number(script: &[u8], token: &Token, others: &[Token]) -> u8
+    ensures { result ≡ (lexeme script.now token.now others.now).class }
 {
     match token.kind {
         TokenKind::Word(word) => word_number(word),
@@ -149,15 +167,9 @@ fn class_number(script: &[u8], token: &Token) -> u8
         TokenKind::Text => TEXT,
         TokenKind::Integer => INTEGER,
         TokenKind::Decimal => DECIMAL,
+        TokenKind::Sign(Sign::LeftParenthesis) => parenthesis_number(others),
         TokenKind::Sign(sign) => sign_number(sign),
     }
-}
-
-/// Whether that is a name's class.
-fn is_name(class: u8) -> bool
-    ensures { result ≡ is_among class names }
-{
-    class == PLAIN || class == QUOTED || class == HEADER || class == DELIMITER
 }
 
 impl<'a> Cursor<'a> {
@@ -171,9 +183,9 @@ impl<'a> Cursor<'a> {
     pub(crate) fn sees(&self, class: u8) -> bool
         ensures { result ≡ sees (class ∷ []) (first self.now) }
     {
-        match self.tokens.first() {
-            Some(token) => class_number(self.script, token) == class,
-            None => false,
+        match self.tokens {
+            [token, others @ ..] => class_number(self.script, token, others) == class,
+            [] => false,
         }
     }
 
@@ -258,14 +270,61 @@ impl<'a> Cursor<'a> {
         Ok(self.take().start)
     }
 
+    /// Whether an opening parenthesis comes next.
+    pub(crate) fn at_opening(&self) -> bool
+        ensures { result ≡ sees opens (first self.now) }
+    {
+        self.at_sign(Sign::LeftParenthesis) || self.sees(QUERY)
+    }
+
+    /// Takes an opening parenthesis, which has to come next.
+    pub(crate) fn opening(&mut self) -> Result<usize, Fault>
+        ensures gives { Gives (read (readers 0) form.opening self.old) result self.new }
+        ensures shrinks { length self.new ≤ length self.old }
+        ensures falls { IsOk result → length self.new < length self.old }
+    {
+        if !self.at_opening() {
+            return Err(Fault::Syntax);
+        }
+        Ok(self.take().start)
+    }
+
+    /// Whether a name other than DATE comes next.
+    pub(crate) fn at_other_name(&self) -> bool
+        ensures { result ≡ sees other_names (first self.now) }
+    {
+        self.sees(PLAIN) || self.sees(QUOTED) || self.sees(HEADER) || self.sees(DELIMITER)
+    }
+
+    /// Takes a name other than DATE, which has to come next.
+    pub(crate) fn other_name(&mut self) -> Result<Span, Fault>
+        ensures gives { Gives (read (readers 0) (rule.one other_names span_of) self.old) result self.new }
+        ensures shrinks { length self.new ≤ length self.old }
+        ensures falls { IsOk result → length self.new < length self.old }
+    {
+        if !self.at_other_name() {
+            return Err(Fault::Syntax);
+        }
+        Ok(self.take())
+    }
+
+    /// Takes the name DATE, which has to come next.
+    pub(crate) fn date_name(&mut self) -> Result<Span, Fault>
+        ensures gives { Gives (read (readers 0) (form.token date_class span_of) self.old) result self.new }
+        ensures shrinks { length self.new ≤ length self.old }
+        ensures falls { IsOk result → length self.new < length self.old }
+    {
+        if !self.sees(DATE) {
+            return Err(Fault::Syntax);
+        }
+        Ok(self.take())
+    }
+
     /// Whether a name comes next.
     pub(crate) fn at_name(&self) -> bool
         ensures { result ≡ sees names (first self.now) }
     {
-        match self.tokens.first() {
-            Some(token) => is_name(class_number(self.script, token)),
-            None => false,
-        }
+        self.sees(DATE) || self.at_other_name()
     }
 
     /// Takes a name, which has to come next.

@@ -1,29 +1,30 @@
 //! Expressions: a function for each rule of the grammar, by its name. `depth` is how many levels may still nest.
 ghost use Rattle.std.specs.Prelude.{◌≤◌, ◌<◌, length, IsOk, Ok};
-ghost use Rattle.sql_parse.specs.Form.{many, an_expr, a_neg, a_unary, an_argument};
-ghost use Rattle.sql_parse.specs.Reading.{read, opened, and_then};
-ghost use Rattle.sql_parse.specs.Nesting.{readers};
-ghost use Rattle.sql_parse.specs.Whole.{Gives};
-ghost use Rattle.sql_parse.specs.Expressions as form;
+ghost use Rattle.sql_grammar.specs.Form.{many, an_expr, a_neg, a_unary, an_argument};
+ghost use Rattle.sql_grammar.specs.Reading.{read, opened, and_then};
+ghost use Rattle.sql_grammar.specs.Nesting.{readers};
+ghost use Rattle.sql_parse.specs.Gives.{Gives};
+ghost use Rattle.sql_grammar.specs.Expressions as form;
 
-use crate::cursor::Cursor;
-use crate::fault::Fault;
-use crate::leaves::{column, compare_sign, literal_node, sum_sign, term_sign};
+use crate::cursor::{Cursor, QUERY, TEXT};
+use crate::leaves::{column, compare_sign, date_node, literal_node, sum_sign, term_sign};
 use crate::looks::{
-    at_and, at_comparison, at_group, at_like, at_named, at_null_test, at_one_of, at_or,
+    at_and, at_comparison, at_dated, at_group, at_in_test, at_like, at_named, at_null_test, at_or,
     at_range_test, at_sum_sign, at_term_sign,
 };
 use crate::nodes::{
-    Bounds, bounded, call, chain, closed, compared, either, every, minus, negation, ranged,
+    Bounds, bounded, call, chain, closed, compared, either, every, member, minus, negation, ranged,
 };
 use crate::predicates::{like, null_test, one_of};
-use crate::tree::{Argument, Expr, Link, Operand};
+use crate::select::nested_select;
+use sql_grammar::Fault;
+use sql_grammar::tree::{Argument, Expr, Link, Operand, Span};
 use sql_lex::{Sign, Word};
 use sqlite_items::{Boxed, Items};
 use std::alloc::Global;
 
 /// The expression behind the token that opens a level.
-#[cycle(expr)]
+#[cycle(rule)]
 fn nested_expr(alloc: Global, cursor: &mut Cursor<'_>, depth: u8) -> Result<Boxed<Expr>, Fault>
     ensures gives { Gives (opened (readers depth an_expr) cursor.old) result cursor.new }
     ensures shrinks { length cursor.new ≤ length cursor.old }
@@ -36,7 +37,7 @@ fn nested_expr(alloc: Global, cursor: &mut Cursor<'_>, depth: u8) -> Result<Boxe
 }
 
 /// The negation behind the token that opens a level.
-#[cycle(expr)]
+#[cycle(rule)]
 fn nested_neg(alloc: Global, cursor: &mut Cursor<'_>, depth: u8) -> Result<Boxed<Expr>, Fault>
     ensures gives { Gives (opened (readers depth a_neg) cursor.old) result cursor.new }
     ensures shrinks { length cursor.new ≤ length cursor.old }
@@ -49,7 +50,7 @@ fn nested_neg(alloc: Global, cursor: &mut Cursor<'_>, depth: u8) -> Result<Boxed
 }
 
 /// The operand of a minus behind the token that opens a level.
-#[cycle(expr)]
+#[cycle(rule)]
 fn nested_unary(alloc: Global, cursor: &mut Cursor<'_>, depth: u8) -> Result<Boxed<Expr>, Fault>
     ensures gives { Gives (opened (readers depth a_unary) cursor.old) result cursor.new }
     ensures shrinks { length cursor.new ≤ length cursor.old }
@@ -62,7 +63,7 @@ fn nested_unary(alloc: Global, cursor: &mut Cursor<'_>, depth: u8) -> Result<Box
 }
 
 /// The argument behind the token that opens a level.
-#[cycle(expr)]
+#[cycle(rule)]
 fn nested_argument(alloc: Global, cursor: &mut Cursor<'_>, depth: u8) -> Result<Argument, Fault>
     ensures gives { Gives (opened (readers depth an_argument) cursor.old) result cursor.new }
     ensures shrinks { length cursor.new ≤ length cursor.old }
@@ -74,13 +75,13 @@ fn nested_argument(alloc: Global, cursor: &mut Cursor<'_>, depth: u8) -> Result<
     argument(alloc, cursor, depth - 1)
 }
 
-#[cycle(expr)]
-#[tactic(auto, unfolding(crate::specs::Expressions::group))]
+#[cycle(rule)]
+#[tactic(auto, unfolding(sql_grammar::specs::Expressions::group))]
 fn group(alloc: Global, cursor: &mut Cursor<'_>, depth: u8) -> Result<Boxed<Expr>, Fault>
     ensures gives { Gives (read (readers depth) form.group cursor.old) result cursor.new }
     ensures shrinks { length cursor.new ≤ length cursor.old }
 {
-    if !cursor.at_sign(Sign::LeftParenthesis) {
+    if !cursor.at_opening() {
         return Err(Fault::Syntax);
     }
     let inner = nested_expr(alloc, cursor, depth);
@@ -88,8 +89,8 @@ fn group(alloc: Global, cursor: &mut Cursor<'_>, depth: u8) -> Result<Boxed<Expr
 }
 
 /// What stands between a function's parentheses.
-#[cycle(expr)]
-#[tactic(auto, unfolding(crate::specs::Expressions::argument))]
+#[cycle(rule)]
+#[tactic(auto, unfolding(sql_grammar::specs::Expressions::argument))]
 fn argument(alloc: Global, cursor: &mut Cursor<'_>, depth: u8) -> Result<Argument, Fault>
     ensures gives { Gives (read (readers depth) form.argument cursor.old) result cursor.new }
     ensures shrinks { length cursor.new ≤ length cursor.old }
@@ -98,33 +99,69 @@ fn argument(alloc: Global, cursor: &mut Cursor<'_>, depth: u8) -> Result<Argumen
         cursor.shift();
         return Ok(Argument::Star);
     }
+    if cursor.at_word(Word::Distinct) {
+        cursor.shift();
+        let value = expr(alloc, cursor, depth)?;
+        return Ok(Argument::Distinct(value));
+    }
     let value = expr(alloc, cursor, depth)?;
     Ok(Argument::Value(value))
 }
 
-/// A column or a call.
-#[cycle(expr)]
-#[tactic(auto, unfolding(crate::specs::Expressions::named))]
-fn named(alloc: Global, cursor: &mut Cursor<'_>, depth: u8) -> Result<Boxed<Expr>, Fault>
-    ensures gives { Gives (read (readers depth) form.named cursor.old) result cursor.new }
+/// What stands behind the name of a column, of its source or of a function.
+#[cycle(rule)]
+#[tactic(auto, unfolding(sql_grammar::specs::Expressions::name_end))]
+fn name_end(
+    alloc: Global,
+    cursor: &mut Cursor<'_>,
+    name: Span,
+    depth: u8,
+) -> Result<Boxed<Expr>, Fault>
+    ensures gives { Gives (and_then (read (readers depth) form.name_end cursor.old) (λ f r. Ok (f name, r))) result cursor.new }
     ensures shrinks { length cursor.new ≤ length cursor.old }
 {
-    let name = cursor.name()?;
-    if !cursor.at_sign(Sign::LeftParenthesis) {
+    if !cursor.at_opening() {
         return column(alloc, cursor, name, depth);
     }
     let argument = nested_argument(alloc, cursor, depth);
     call(alloc, cursor, name, argument)
 }
 
-#[cycle(expr)]
-#[tactic(auto, unfolding(crate::specs::Expressions::atom))]
+/// A column or a call.
+#[cycle(rule)]
+#[tactic(auto, unfolding(sql_grammar::specs::Expressions::named))]
+fn named(alloc: Global, cursor: &mut Cursor<'_>, depth: u8) -> Result<Boxed<Expr>, Fault>
+    ensures gives { Gives (read (readers depth) form.named cursor.old) result cursor.new }
+    ensures shrinks { length cursor.new ≤ length cursor.old }
+{
+    let name = cursor.other_name()?;
+    name_end(alloc, cursor, name, depth)
+}
+
+/// A date, or a column or a call whose name begins with DATE.
+#[cycle(rule)]
+#[tactic(auto, unfolding(sql_grammar::specs::Expressions::dated))]
+fn dated(alloc: Global, cursor: &mut Cursor<'_>, depth: u8) -> Result<Boxed<Expr>, Fault>
+    ensures gives { Gives (read (readers depth) form.dated cursor.old) result cursor.new }
+    ensures shrinks { length cursor.new ≤ length cursor.old }
+{
+    let name = cursor.date_name()?;
+    if cursor.sees(TEXT) {
+        return date_node(alloc, cursor, name, depth);
+    }
+    name_end(alloc, cursor, name, depth)
+}
+
+#[cycle(rule)]
+#[tactic(auto, unfolding(sql_grammar::specs::Expressions::atom))]
 fn atom(alloc: Global, cursor: &mut Cursor<'_>, depth: u8) -> Result<Boxed<Expr>, Fault>
     ensures gives { Gives (read (readers depth) form.atom cursor.old) result cursor.new }
     ensures shrinks { length cursor.new ≤ length cursor.old }
 {
     if at_named(cursor) {
         named(alloc, cursor, depth)
+    } else if at_dated(cursor) {
+        dated(alloc, cursor, depth)
     } else if at_group(cursor) {
         group(alloc, cursor, depth)
     } else {
@@ -132,8 +169,8 @@ fn atom(alloc: Global, cursor: &mut Cursor<'_>, depth: u8) -> Result<Boxed<Expr>
     }
 }
 
-#[cycle(expr)]
-#[tactic(auto, unfolding(crate::specs::Expressions::unary))]
+#[cycle(rule)]
+#[tactic(auto, unfolding(sql_grammar::specs::Expressions::unary))]
 fn unary(alloc: Global, cursor: &mut Cursor<'_>, depth: u8) -> Result<Boxed<Expr>, Fault>
     ensures gives { Gives (read (readers depth) form.unary cursor.old) result cursor.new }
     ensures shrinks { length cursor.new ≤ length cursor.old }
@@ -146,8 +183,8 @@ fn unary(alloc: Global, cursor: &mut Cursor<'_>, depth: u8) -> Result<Boxed<Expr
     minus(alloc, span.start, operand)
 }
 
-#[cycle(expr)]
-#[tactic(auto, unfolding(crate::specs::Expressions::term_link))]
+#[cycle(rule)]
+#[tactic(auto, unfolding(sql_grammar::specs::Expressions::term_link))]
 fn term_link(alloc: Global, cursor: &mut Cursor<'_>, depth: u8) -> Result<Link, Fault>
     ensures gives { Gives (read (readers depth) form.term_link cursor.old) result cursor.new }
     ensures shrinks { length cursor.new ≤ length cursor.old }
@@ -159,7 +196,7 @@ fn term_link(alloc: Global, cursor: &mut Cursor<'_>, depth: u8) -> Result<Link, 
 }
 
 /// As many as come.
-#[cycle(expr)]
+#[cycle(rule)]
 fn term_links(alloc: Global, cursor: &mut Cursor<'_>, depth: u8) -> Result<Items<Link>, Fault>
     ensures gives { Gives (read (readers depth) (many form.term_link) cursor.old) result cursor.new }
     ensures shrinks { length cursor.new ≤ length cursor.old }
@@ -172,8 +209,8 @@ fn term_links(alloc: Global, cursor: &mut Cursor<'_>, depth: u8) -> Result<Items
     Ok(found)
 }
 
-#[cycle(expr)]
-#[tactic(auto, unfolding(crate::specs::Expressions::term))]
+#[cycle(rule)]
+#[tactic(auto, unfolding(sql_grammar::specs::Expressions::term))]
 fn term(alloc: Global, cursor: &mut Cursor<'_>, depth: u8) -> Result<Boxed<Expr>, Fault>
     ensures gives { Gives (read (readers depth) form.term cursor.old) result cursor.new }
     ensures shrinks { length cursor.new ≤ length cursor.old }
@@ -183,8 +220,8 @@ fn term(alloc: Global, cursor: &mut Cursor<'_>, depth: u8) -> Result<Boxed<Expr>
     chain(alloc, first, links)
 }
 
-#[cycle(expr)]
-#[tactic(auto, unfolding(crate::specs::Expressions::sum_link))]
+#[cycle(rule)]
+#[tactic(auto, unfolding(sql_grammar::specs::Expressions::sum_link))]
 fn sum_link(alloc: Global, cursor: &mut Cursor<'_>, depth: u8) -> Result<Link, Fault>
     ensures gives { Gives (read (readers depth) form.sum_link cursor.old) result cursor.new }
     ensures shrinks { length cursor.new ≤ length cursor.old }
@@ -196,7 +233,7 @@ fn sum_link(alloc: Global, cursor: &mut Cursor<'_>, depth: u8) -> Result<Link, F
 }
 
 /// As many as come.
-#[cycle(expr)]
+#[cycle(rule)]
 fn sum_links(alloc: Global, cursor: &mut Cursor<'_>, depth: u8) -> Result<Items<Link>, Fault>
     ensures gives { Gives (read (readers depth) (many form.sum_link) cursor.old) result cursor.new }
     ensures shrinks { length cursor.new ≤ length cursor.old }
@@ -209,8 +246,8 @@ fn sum_links(alloc: Global, cursor: &mut Cursor<'_>, depth: u8) -> Result<Items<
     Ok(found)
 }
 
-#[cycle(expr)]
-#[tactic(auto, unfolding(crate::specs::Expressions::sum))]
+#[cycle(rule)]
+#[tactic(auto, unfolding(sql_grammar::specs::Expressions::sum))]
 fn sum(alloc: Global, cursor: &mut Cursor<'_>, depth: u8) -> Result<Boxed<Expr>, Fault>
     ensures gives { Gives (read (readers depth) form.sum cursor.old) result cursor.new }
     ensures shrinks { length cursor.new ≤ length cursor.old }
@@ -220,8 +257,8 @@ fn sum(alloc: Global, cursor: &mut Cursor<'_>, depth: u8) -> Result<Boxed<Expr>,
     chain(alloc, first, links)
 }
 
-#[cycle(expr)]
-#[tactic(auto, unfolding(crate::specs::Expressions::comparison))]
+#[cycle(rule)]
+#[tactic(auto, unfolding(sql_grammar::specs::Expressions::comparison))]
 fn comparison(
     alloc: Global,
     cursor: &mut Cursor<'_>,
@@ -237,7 +274,7 @@ fn comparison(
 }
 
 /// `AND sum`
-#[cycle(expr)]
+#[cycle(rule)]
 fn upper(alloc: Global, cursor: &mut Cursor<'_>, depth: u8) -> Result<Boxed<Expr>, Fault>
     ensures gives { Gives (read (readers depth) form.upper cursor.old) result cursor.new }
     ensures shrinks { length cursor.new ≤ length cursor.old }
@@ -247,7 +284,7 @@ fn upper(alloc: Global, cursor: &mut Cursor<'_>, depth: u8) -> Result<Boxed<Expr
 }
 
 /// `BETWEEN sum AND sum`
-#[cycle(expr)]
+#[cycle(rule)]
 fn bounds(alloc: Global, cursor: &mut Cursor<'_>, depth: u8) -> Result<Bounds, Fault>
     ensures gives { Gives (read (readers depth) form.bounds cursor.old) result cursor.new }
     ensures shrinks { length cursor.new ≤ length cursor.old }
@@ -258,8 +295,8 @@ fn bounds(alloc: Global, cursor: &mut Cursor<'_>, depth: u8) -> Result<Bounds, F
     bounded(place, low, high)
 }
 
-#[cycle(expr)]
-#[tactic(auto, unfolding(crate::specs::Expressions::between))]
+#[cycle(rule)]
+#[tactic(auto, unfolding(sql_grammar::specs::Expressions::between))]
 fn between(
     alloc: Global,
     cursor: &mut Cursor<'_>,
@@ -274,9 +311,30 @@ fn between(
     ranged(alloc, left, negated, bounds)
 }
 
+/// IN, with a subquery or with a list of constants.
+#[cycle(rule)]
+#[tactic(auto, unfolding(sql_grammar::specs::Expressions::in_test, sql_grammar::specs::Expressions::member))]
+fn in_test(
+    alloc: Global,
+    cursor: &mut Cursor<'_>,
+    left: Boxed<Expr>,
+    negated: bool,
+    depth: u8,
+) -> Result<Boxed<Expr>, Fault>
+    ensures gives { Gives (and_then (read (readers depth) form.in_test cursor.old) (λ test r. Ok (test negated left, r))) result cursor.new }
+    ensures shrinks { length cursor.new ≤ length cursor.old }
+{
+    let place = cursor.word(Word::In)?;
+    if !cursor.sees(QUERY) {
+        return one_of(alloc, cursor, left, negated, place, depth);
+    }
+    let query = nested_select(alloc, cursor, depth);
+    member(alloc, cursor, left, negated, place, query)
+}
+
 /// LIKE, IN or BETWEEN, with or without NOT.
-#[cycle(expr)]
-#[tactic(auto, unfolding(crate::specs::Expressions::range_test))]
+#[cycle(rule)]
+#[tactic(auto, unfolding(sql_grammar::specs::Expressions::range_test))]
 fn range_test(
     alloc: Global,
     cursor: &mut Cursor<'_>,
@@ -289,16 +347,16 @@ fn range_test(
     let negated = cursor.skip_word(Word::Not);
     if at_like(cursor) {
         like(alloc, cursor, left, negated, depth)
-    } else if at_one_of(cursor) {
-        one_of(alloc, cursor, left, negated, depth)
+    } else if at_in_test(cursor) {
+        in_test(alloc, cursor, left, negated, depth)
     } else {
         between(alloc, cursor, left, negated, depth)
     }
 }
 
 /// What may stand after a sum.
-#[cycle(expr)]
-#[tactic(auto, unfolding(crate::specs::Expressions::after_sum))]
+#[cycle(rule)]
+#[tactic(auto, unfolding(sql_grammar::specs::Expressions::after_sum))]
 fn after_sum(
     alloc: Global,
     cursor: &mut Cursor<'_>,
@@ -319,8 +377,8 @@ fn after_sum(
     }
 }
 
-#[cycle(expr)]
-#[tactic(auto, unfolding(crate::specs::Expressions::pred))]
+#[cycle(rule)]
+#[tactic(auto, unfolding(sql_grammar::specs::Expressions::pred))]
 fn pred(alloc: Global, cursor: &mut Cursor<'_>, depth: u8) -> Result<Boxed<Expr>, Fault>
     ensures gives { Gives (read (readers depth) form.pred cursor.old) result cursor.new }
     ensures shrinks { length cursor.new ≤ length cursor.old }
@@ -329,8 +387,8 @@ fn pred(alloc: Global, cursor: &mut Cursor<'_>, depth: u8) -> Result<Boxed<Expr>
     after_sum(alloc, cursor, left, depth)
 }
 
-#[cycle(expr)]
-#[tactic(auto, unfolding(crate::specs::Expressions::neg))]
+#[cycle(rule)]
+#[tactic(auto, unfolding(sql_grammar::specs::Expressions::neg))]
 fn neg(alloc: Global, cursor: &mut Cursor<'_>, depth: u8) -> Result<Boxed<Expr>, Fault>
     ensures gives { Gives (read (readers depth) form.neg cursor.old) result cursor.new }
     ensures shrinks { length cursor.new ≤ length cursor.old }
@@ -343,8 +401,8 @@ fn neg(alloc: Global, cursor: &mut Cursor<'_>, depth: u8) -> Result<Boxed<Expr>,
     negation(alloc, span.start, operand)
 }
 
-#[cycle(expr)]
-#[tactic(auto, unfolding(crate::specs::Expressions::and_operand))]
+#[cycle(rule)]
+#[tactic(auto, unfolding(sql_grammar::specs::Expressions::and_operand))]
 fn and_operand(alloc: Global, cursor: &mut Cursor<'_>, depth: u8) -> Result<Operand, Fault>
     ensures gives { Gives (read (readers depth) form.and_operand cursor.old) result cursor.new }
     ensures shrinks { length cursor.new ≤ length cursor.old }
@@ -356,7 +414,7 @@ fn and_operand(alloc: Global, cursor: &mut Cursor<'_>, depth: u8) -> Result<Oper
 }
 
 /// As many as come.
-#[cycle(expr)]
+#[cycle(rule)]
 fn and_operands(alloc: Global, cursor: &mut Cursor<'_>, depth: u8) -> Result<Items<Operand>, Fault>
     ensures gives { Gives (read (readers depth) (many form.and_operand) cursor.old) result cursor.new }
     ensures shrinks { length cursor.new ≤ length cursor.old }
@@ -369,8 +427,8 @@ fn and_operands(alloc: Global, cursor: &mut Cursor<'_>, depth: u8) -> Result<Ite
     Ok(found)
 }
 
-#[cycle(expr)]
-#[tactic(auto, unfolding(crate::specs::Expressions::conj))]
+#[cycle(rule)]
+#[tactic(auto, unfolding(sql_grammar::specs::Expressions::conj))]
 fn conj(alloc: Global, cursor: &mut Cursor<'_>, depth: u8) -> Result<Boxed<Expr>, Fault>
     ensures gives { Gives (read (readers depth) form.conj cursor.old) result cursor.new }
     ensures shrinks { length cursor.new ≤ length cursor.old }
@@ -380,8 +438,8 @@ fn conj(alloc: Global, cursor: &mut Cursor<'_>, depth: u8) -> Result<Boxed<Expr>
     every(alloc, first, others)
 }
 
-#[cycle(expr)]
-#[tactic(auto, unfolding(crate::specs::Expressions::or_operand))]
+#[cycle(rule)]
+#[tactic(auto, unfolding(sql_grammar::specs::Expressions::or_operand))]
 fn or_operand(alloc: Global, cursor: &mut Cursor<'_>, depth: u8) -> Result<Operand, Fault>
     ensures gives { Gives (read (readers depth) form.or_operand cursor.old) result cursor.new }
     ensures shrinks { length cursor.new ≤ length cursor.old }
@@ -393,7 +451,7 @@ fn or_operand(alloc: Global, cursor: &mut Cursor<'_>, depth: u8) -> Result<Opera
 }
 
 /// As many as come.
-#[cycle(expr)]
+#[cycle(rule)]
 fn or_operands(alloc: Global, cursor: &mut Cursor<'_>, depth: u8) -> Result<Items<Operand>, Fault>
     ensures gives { Gives (read (readers depth) (many form.or_operand) cursor.old) result cursor.new }
     ensures shrinks { length cursor.new ≤ length cursor.old }
@@ -406,8 +464,8 @@ fn or_operands(alloc: Global, cursor: &mut Cursor<'_>, depth: u8) -> Result<Item
     Ok(found)
 }
 
-#[cycle(expr)]
-#[tactic(auto, unfolding(crate::specs::Expressions::expr))]
+#[cycle(rule)]
+#[tactic(auto, unfolding(sql_grammar::specs::Expressions::expr))]
 pub(crate) fn expr(alloc: Global, cursor: &mut Cursor<'_>, depth: u8) -> Result<Boxed<Expr>, Fault>
     ensures gives { Gives (read (readers depth) form.expr cursor.old) result cursor.new }
     ensures shrinks { length cursor.new ≤ length cursor.old }

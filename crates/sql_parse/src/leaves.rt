@@ -1,21 +1,22 @@
 //! Parts of expressions in which nothing nests: literals, constants, names of columns, and signs.
 ghost use Rattle.std.specs.Prelude.{◌≤◌, ◌<◌, length, IsOk, Ok};
-ghost use Rattle.sql_parse.specs.Reading.{read, and_then};
-ghost use Rattle.sql_parse.specs.Nesting.{readers};
-ghost use Rattle.sql_parse.specs.Whole.{Gives};
-ghost use Rattle.sql_parse.specs.Expressions as form;
-ghost use Rattle.sql_parse.specs.declared.tree.expr.Expr.TheVariants as node;
+ghost use Rattle.sql_grammar.specs.Reading.{read, and_then};
+ghost use Rattle.sql_grammar.specs.Nesting.{readers};
+ghost use Rattle.sql_parse.specs.Gives.{Gives};
+ghost use Rattle.sql_grammar.specs.Expressions as form;
+ghost use Rattle.sql_grammar.specs.declared.tree.expr.Expr.TheVariants as node;
 
-use crate::cursor::{Cursor, DECIMAL, INTEGER, TEXT};
-use crate::fault::Fault;
-use crate::tree::{ChainSign, ColumnName, CompareSign, Constant, Expr, Literal, Span};
+use crate::cursor::{Cursor, DATE, DECIMAL, INTEGER, TEXT};
+use sql_grammar::Fault;
+use sql_grammar::tree::{ChainSign, ColumnName, CompareSign, Constant, Expr, Literal, Span};
 use sql_lex::{Sign, Word};
 use sqlite_items::Boxed;
 use std::alloc::Global;
 
-#[tactic(auto, unfolding(crate::specs::Expressions::literal))]
-pub(crate) fn literal(cursor: &mut Cursor<'_>, depth: u8) -> Result<Literal, Fault>
-    ensures gives { Gives (read (readers depth) form.literal cursor.old) result cursor.new }
+/// A literal of one token.
+#[tactic(auto, unfolding(sql_grammar::specs::Expressions::plain_literal))]
+fn plain_literal(cursor: &mut Cursor<'_>, depth: u8) -> Result<Literal, Fault>
+    ensures gives { Gives (read (readers depth) form.plain_literal cursor.old) result cursor.new }
     ensures shrinks { length cursor.new ≤ length cursor.old }
 {
     if cursor.sees(INTEGER) {
@@ -33,16 +34,51 @@ pub(crate) fn literal(cursor: &mut Cursor<'_>, depth: u8) -> Result<Literal, Fau
     }
 }
 
-/// A literal as an expression.
+#[tactic(auto, unfolding(sql_grammar::specs::Expressions::date))]
+fn date(cursor: &mut Cursor<'_>, depth: u8) -> Result<Literal, Fault>
+    ensures gives { Gives (read (readers depth) form.date cursor.old) result cursor.new }
+    ensures shrinks { length cursor.new ≤ length cursor.old }
+{
+    cursor.date_name()?;
+    Ok(Literal::Date(cursor.text()?))
+}
+
+#[tactic(auto, unfolding(sql_grammar::specs::Expressions::literal, sql_grammar::specs::Expressions::date))]
+fn literal(cursor: &mut Cursor<'_>, depth: u8) -> Result<Literal, Fault>
+    ensures gives { Gives (read (readers depth) form.literal cursor.old) result cursor.new }
+    ensures shrinks { length cursor.new ≤ length cursor.old }
+{
+    if cursor.sees(DATE) {
+        date(cursor, depth)
+    } else {
+        plain_literal(cursor, depth)
+    }
+}
+
+/// A date as an expression, behind DATE.
+pub(crate) fn date_node(
+    alloc: Global,
+    cursor: &mut Cursor<'_>,
+    name: Span,
+    depth: u8,
+) -> Result<Boxed<Expr>, Fault>
+    ensures gives { Gives (and_then (read (readers depth) form.date_end cursor.old) (λ f r. Ok (f name, r))) result cursor.new }
+    ensures shrinks { length cursor.new ≤ length cursor.old }
+{
+    let text = cursor.text()?;
+    Ok(Boxed::new(alloc, Expr::Literal(Literal::Date(text)))?)
+}
+
+/// A literal of one token as an expression.
 pub(crate) fn literal_node(
     alloc: Global,
     cursor: &mut Cursor<'_>,
     depth: u8,
 ) -> Result<Boxed<Expr>, Fault>
-    ensures gives { Gives (and_then (read (readers depth) form.literal cursor.old) (λ l r. Ok (node.Literal l, r))) result cursor.new }
+    ensures gives { Gives (and_then (read (readers depth) form.plain_literal cursor.old) (λ l r. Ok (node.Literal l, r))) result cursor.new }
     ensures shrinks { length cursor.new ≤ length cursor.old }
 {
-    let literal = literal(cursor, depth)?;
+    let literal = plain_literal(cursor, depth)?;
     Ok(Boxed::new(alloc, Expr::Literal(literal))?)
 }
 
@@ -67,7 +103,7 @@ pub(crate) fn column(
     Ok(Boxed::new(alloc, Expr::Column(column))?)
 }
 
-#[tactic(auto, unfolding(crate::specs::Expressions::constant))]
+#[tactic(auto, unfolding(sql_grammar::specs::Expressions::constant))]
 pub(crate) fn constant(cursor: &mut Cursor<'_>, depth: u8) -> Result<Constant, Fault>
     ensures gives { Gives (read (readers depth) form.constant cursor.old) result cursor.new }
     ensures shrinks { length cursor.new ≤ length cursor.old }
@@ -77,7 +113,7 @@ pub(crate) fn constant(cursor: &mut Cursor<'_>, depth: u8) -> Result<Constant, F
     Ok(Constant { minus, literal })
 }
 
-#[tactic(auto, unfolding(crate::specs::Expressions::column_name))]
+#[tactic(auto, unfolding(sql_grammar::specs::Expressions::column_name))]
 pub(crate) fn column_name(cursor: &mut Cursor<'_>, depth: u8) -> Result<ColumnName, Fault>
     ensures gives { Gives (read (readers depth) form.column_name cursor.old) result cursor.new }
     ensures shrinks { length cursor.new ≤ length cursor.old }
@@ -97,7 +133,7 @@ pub(crate) fn column_name(cursor: &mut Cursor<'_>, depth: u8) -> Result<ColumnNa
     })
 }
 
-#[tactic(auto, unfolding(crate::specs::Expressions::term_sign))]
+#[tactic(auto, unfolding(sql_grammar::specs::Expressions::term_sign))]
 pub(crate) fn term_sign(cursor: &mut Cursor<'_>, depth: u8) -> Result<(ChainSign, usize), Fault>
     ensures gives { Gives (read (readers depth) form.term_sign cursor.old) result cursor.new }
     ensures shrinks { length cursor.new ≤ length cursor.old }
@@ -114,7 +150,7 @@ pub(crate) fn term_sign(cursor: &mut Cursor<'_>, depth: u8) -> Result<(ChainSign
     }
 }
 
-#[tactic(auto, unfolding(crate::specs::Expressions::sum_sign))]
+#[tactic(auto, unfolding(sql_grammar::specs::Expressions::sum_sign))]
 pub(crate) fn sum_sign(cursor: &mut Cursor<'_>, depth: u8) -> Result<(ChainSign, usize), Fault>
     ensures gives { Gives (read (readers depth) form.sum_sign cursor.old) result cursor.new }
     ensures shrinks { length cursor.new ≤ length cursor.old }
@@ -129,7 +165,7 @@ pub(crate) fn sum_sign(cursor: &mut Cursor<'_>, depth: u8) -> Result<(ChainSign,
     }
 }
 
-#[tactic(auto, unfolding(crate::specs::Expressions::compare_sign))]
+#[tactic(auto, unfolding(sql_grammar::specs::Expressions::compare_sign))]
 pub(crate) fn compare_sign(
     cursor: &mut Cursor<'_>,
     depth: u8,

@@ -1,19 +1,18 @@
-//! The grammar of SQL scripts.
+//! Scripts parsed by the grammar.
 #![tactic(auto)]
 
 mod clauses;
 mod constants;
 mod cursor;
 mod expr;
-mod fault;
 mod leaves;
 mod looks;
 mod nodes;
 mod predicates;
+mod rows;
 mod script;
 mod select;
 mod statements;
-pub mod tree;
 
-pub use fault::ParseFault;
 pub use script::parse;
+pub use sql_grammar::{ParseFault, tree};

@@ -1,14 +1,14 @@
 //! What comes next, told by the next token.
 ghost use Rattle.std.specs.Prelude.{◌≡◌};
-ghost use Rattle.sql_parse.specs.Lexeme.{first};
-ghost use Rattle.sql_parse.specs.Reading.{begins};
-ghost use Rattle.sql_parse.specs.Expressions as form;
+ghost use Rattle.sql_grammar.specs.Lexeme.{first};
+ghost use Rattle.sql_grammar.specs.Reading.{begins};
+ghost use Rattle.sql_grammar.specs.Expressions as form;
 
-use crate::cursor::Cursor;
+use crate::cursor::{Cursor, DATE};
 use sql_lex::{Sign, Word};
 
 /// Whether a link of a term comes next.
-#[tactic(auto, unfolding(crate::specs::Expressions::term_sign, crate::specs::Expressions::term_link))]
+#[tactic(auto, unfolding(sql_grammar::specs::Expressions::term_sign, sql_grammar::specs::Expressions::term_link))]
 pub(crate) fn at_term_sign(cursor: &Cursor<'_>) -> bool
     ensures { result ≡ begins form.term_link (first cursor.now) }
 {
@@ -16,7 +16,7 @@ pub(crate) fn at_term_sign(cursor: &Cursor<'_>) -> bool
 }
 
 /// Whether a link of a sum comes next.
-#[tactic(auto, unfolding(crate::specs::Expressions::sum_sign, crate::specs::Expressions::sum_link))]
+#[tactic(auto, unfolding(sql_grammar::specs::Expressions::sum_sign, sql_grammar::specs::Expressions::sum_link))]
 pub(crate) fn at_sum_sign(cursor: &Cursor<'_>) -> bool
     ensures { result ≡ begins form.sum_link (first cursor.now) }
 {
@@ -24,7 +24,7 @@ pub(crate) fn at_sum_sign(cursor: &Cursor<'_>) -> bool
 }
 
 /// Whether a comparison comes next.
-#[tactic(auto, unfolding(crate::specs::Expressions::compare_sign))]
+#[tactic(auto, unfolding(sql_grammar::specs::Expressions::compare_sign))]
 pub(crate) fn at_compare_sign(cursor: &Cursor<'_>) -> bool
     ensures { result ≡ begins form.compare_sign (first cursor.now) }
 {
@@ -37,7 +37,7 @@ pub(crate) fn at_compare_sign(cursor: &Cursor<'_>) -> bool
 }
 
 /// Whether an operand under AND comes next.
-#[tactic(auto, unfolding(crate::specs::Expressions::and_operand))]
+#[tactic(auto, unfolding(sql_grammar::specs::Expressions::and_operand))]
 pub(crate) fn at_and(cursor: &Cursor<'_>) -> bool
     ensures { result ≡ begins form.and_operand (first cursor.now) }
 {
@@ -45,31 +45,39 @@ pub(crate) fn at_and(cursor: &Cursor<'_>) -> bool
 }
 
 /// Whether an operand under OR comes next.
-#[tactic(auto, unfolding(crate::specs::Expressions::or_operand))]
+#[tactic(auto, unfolding(sql_grammar::specs::Expressions::or_operand))]
 pub(crate) fn at_or(cursor: &Cursor<'_>) -> bool
     ensures { result ≡ begins form.or_operand (first cursor.now) }
 {
     cursor.at_word(Word::Or)
 }
 
-/// Whether a column or a call comes next.
-#[tactic(auto, unfolding(crate::specs::Expressions::named))]
+/// Whether a column or a call comes next, whose name doesn't begin with DATE.
+#[tactic(auto, unfolding(sql_grammar::specs::Expressions::named))]
 pub(crate) fn at_named(cursor: &Cursor<'_>) -> bool
     ensures { result ≡ begins form.named (first cursor.now) }
 {
-    cursor.at_name()
+    cursor.at_other_name()
+}
+
+/// Whether the name DATE comes next.
+#[tactic(auto, unfolding(sql_grammar::specs::Expressions::dated))]
+pub(crate) fn at_dated(cursor: &Cursor<'_>) -> bool
+    ensures { result ≡ begins form.dated (first cursor.now) }
+{
+    cursor.sees(DATE)
 }
 
 /// Whether an expression in parentheses comes next.
-#[tactic(auto, unfolding(crate::specs::Expressions::group))]
+#[tactic(auto, unfolding(sql_grammar::specs::Expressions::group))]
 pub(crate) fn at_group(cursor: &Cursor<'_>) -> bool
     ensures { result ≡ begins form.group (first cursor.now) }
 {
-    cursor.at_sign(Sign::LeftParenthesis)
+    cursor.at_opening()
 }
 
 /// Whether a comparison comes next.
-#[tactic(auto, unfolding(crate::specs::Expressions::comparison, crate::specs::Expressions::compare_sign))]
+#[tactic(auto, unfolding(sql_grammar::specs::Expressions::comparison, sql_grammar::specs::Expressions::compare_sign))]
 pub(crate) fn at_comparison(cursor: &Cursor<'_>) -> bool
     ensures { result ≡ begins form.comparison (first cursor.now) }
 {
@@ -77,7 +85,7 @@ pub(crate) fn at_comparison(cursor: &Cursor<'_>) -> bool
 }
 
 /// Whether IS NULL or IS NOT NULL comes next.
-#[tactic(auto, unfolding(crate::specs::Expressions::null_test))]
+#[tactic(auto, unfolding(sql_grammar::specs::Expressions::null_test))]
 pub(crate) fn at_null_test(cursor: &Cursor<'_>) -> bool
     ensures { result ≡ begins form.null_test (first cursor.now) }
 {
@@ -85,7 +93,7 @@ pub(crate) fn at_null_test(cursor: &Cursor<'_>) -> bool
 }
 
 /// Whether LIKE comes next.
-#[tactic(auto, unfolding(crate::specs::Expressions::like))]
+#[tactic(auto, unfolding(sql_grammar::specs::Expressions::like))]
 pub(crate) fn at_like(cursor: &Cursor<'_>) -> bool
     ensures { result ≡ begins form.like (first cursor.now) }
 {
@@ -93,15 +101,15 @@ pub(crate) fn at_like(cursor: &Cursor<'_>) -> bool
 }
 
 /// Whether IN comes next.
-#[tactic(auto, unfolding(crate::specs::Expressions::one_of))]
-pub(crate) fn at_one_of(cursor: &Cursor<'_>) -> bool
-    ensures { result ≡ begins form.one_of (first cursor.now) }
+#[tactic(auto, unfolding(sql_grammar::specs::Expressions::in_test))]
+pub(crate) fn at_in_test(cursor: &Cursor<'_>) -> bool
+    ensures { result ≡ begins form.in_test (first cursor.now) }
 {
     cursor.at_word(Word::In)
 }
 
 /// Whether BETWEEN comes next.
-#[tactic(auto, unfolding(crate::specs::Expressions::between))]
+#[tactic(auto, unfolding(sql_grammar::specs::Expressions::between))]
 pub(crate) fn at_between(cursor: &Cursor<'_>) -> bool
     ensures { result ≡ begins form.between (first cursor.now) }
 {
@@ -109,9 +117,9 @@ pub(crate) fn at_between(cursor: &Cursor<'_>) -> bool
 }
 
 /// Whether LIKE, IN or BETWEEN, with or without NOT, comes next.
-#[tactic(auto, unfolding(crate::specs::Expressions::range_test))]
+#[tactic(auto, unfolding(sql_grammar::specs::Expressions::range_test))]
 pub(crate) fn at_range_test(cursor: &Cursor<'_>) -> bool
     ensures { result ≡ begins form.range_test (first cursor.now) }
 {
-    cursor.at_word(Word::Not) || at_like(cursor) || at_one_of(cursor) || at_between(cursor)
+    cursor.at_word(Word::Not) || at_like(cursor) || at_in_test(cursor) || at_between(cursor)
 }

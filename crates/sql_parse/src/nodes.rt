@@ -1,15 +1,15 @@
 //! Nodes, made of what was read: the fault of a part that wasn't is handed on.
 ghost use Rattle.std.specs.Prelude.{◌≤◌, length, Ok};
-ghost use Rattle.sql_parse.specs.Reading.{and_then, read};
-ghost use Rattle.sql_parse.specs.Combinators as parts;
-ghost use Rattle.sql_parse.specs.Nesting.{readers};
-ghost use Rattle.sql_parse.specs.Whole.{Makes, GoesOn};
-ghost use Rattle.sql_parse.specs.Expressions as form;
-ghost use Rattle.sql_parse.specs.declared.tree.expr.Expr.TheVariants as node;
+ghost use Rattle.sql_grammar.specs.Reading.{and_then, read};
+ghost use Rattle.sql_grammar.specs.Combinators as parts;
+ghost use Rattle.sql_grammar.specs.Nesting.{readers};
+ghost use Rattle.sql_parse.specs.Gives.{Makes, GoesOn};
+ghost use Rattle.sql_grammar.specs.Expressions as form;
+ghost use Rattle.sql_grammar.specs.declared.tree.expr.Expr.TheVariants as node;
 
 use crate::cursor::Cursor;
-use crate::fault::Fault;
-use crate::tree::{Argument, CompareSign, Expr, Link, Operand, Span};
+use sql_grammar::Fault;
+use sql_grammar::tree::{Argument, CompareSign, Expr, Link, Operand, Select, Span};
 use sql_lex::Sign;
 use sqlite_items::{Boxed, Items};
 use std::alloc::Global;
@@ -169,4 +169,27 @@ pub(crate) fn call(
     let argument = argument?;
     cursor.sign(Sign::RightParenthesis)?;
     Ok(Boxed::new(alloc, Expr::Call { name, argument })?)
+}
+
+/// IN with a subquery, whose closing parenthesis has to follow; IN stands at `place`.
+pub(crate) fn member(
+    alloc: Global,
+    cursor: &mut Cursor<'_>,
+    operand: Boxed<Expr>,
+    negated: bool,
+    place: usize,
+    query: Result<Boxed<Select>, Fault>,
+) -> Result<Boxed<Expr>, Fault>
+    ensures goes_on { GoesOn (λ q r. and_then (read (readers 0) (parts.sign Sign.RightParenthesis) r) (λ _ s. Ok (node.Member place negated operand q, s))) query cursor.old result cursor.new }
+    ensures shrinks { length cursor.new ≤ length cursor.old }
+{
+    let query = query?;
+    cursor.sign(Sign::RightParenthesis)?;
+    let node = Expr::Member {
+        place,
+        negated,
+        operand,
+        query,
+    };
+    Ok(Boxed::new(alloc, node)?)
 }

@@ -1,20 +1,20 @@
 //! Tests of an operand in which nothing nests.
 ghost use Rattle.std.specs.Prelude.{◌≤◌, length, Ok};
-ghost use Rattle.sql_parse.specs.Reading.{read, and_then};
-ghost use Rattle.sql_parse.specs.Nesting.{readers};
-ghost use Rattle.sql_parse.specs.Whole.{Gives};
-ghost use Rattle.sql_parse.specs.Expressions as form;
+ghost use Rattle.sql_grammar.specs.Reading.{read, and_then};
+ghost use Rattle.sql_grammar.specs.Nesting.{readers};
+ghost use Rattle.sql_parse.specs.Gives.{Gives};
+ghost use Rattle.sql_grammar.specs.Expressions as form;
 
 use crate::constants::constants;
 use crate::cursor::Cursor;
-use crate::fault::Fault;
-use crate::tree::Expr;
+use sql_grammar::Fault;
+use sql_grammar::tree::Expr;
 use sql_lex::{Sign, Word};
 use sqlite_items::Boxed;
 use std::alloc::Global;
 
 /// IS NULL or IS NOT NULL.
-#[tactic(auto, unfolding(crate::specs::Expressions::null_test))]
+#[tactic(auto, unfolding(sql_grammar::specs::Expressions::null_test))]
 pub(crate) fn null_test(
     alloc: Global,
     cursor: &mut Cursor<'_>,
@@ -35,7 +35,7 @@ pub(crate) fn null_test(
     Ok(Boxed::new(alloc, node)?)
 }
 
-#[tactic(auto, unfolding(crate::specs::Expressions::like))]
+#[tactic(auto, unfolding(sql_grammar::specs::Expressions::like))]
 pub(crate) fn like(
     alloc: Global,
     cursor: &mut Cursor<'_>,
@@ -57,18 +57,19 @@ pub(crate) fn like(
     Ok(Boxed::new(alloc, node)?)
 }
 
-#[tactic(auto, unfolding(crate::specs::Expressions::one_of))]
+/// IN with a list of constants, behind IN, which stands at `place`.
+#[tactic(auto, unfolding(sql_grammar::specs::Expressions::one_of))]
 pub(crate) fn one_of(
     alloc: Global,
     cursor: &mut Cursor<'_>,
     left: Boxed<Expr>,
     negated: bool,
+    place: usize,
     depth: u8,
 ) -> Result<Boxed<Expr>, Fault>
-    ensures gives { Gives (and_then (read (readers depth) form.one_of cursor.old) (λ test r. Ok (test negated left, r))) result cursor.new }
+    ensures gives { Gives (and_then (read (readers depth) form.one_of cursor.old) (λ test r. Ok (test place negated left, r))) result cursor.new }
     ensures shrinks { length cursor.new ≤ length cursor.old }
 {
-    let place = cursor.word(Word::In)?;
     cursor.sign(Sign::LeftParenthesis)?;
     let list = constants(alloc, cursor, depth)?;
     cursor.sign(Sign::RightParenthesis)?;

@@ -1,27 +1,28 @@
 //! Scripts, from their tokens.
 ghost use Rattle.std.specs.Prelude.{◌≡◌, ◌≤◌, ◌++◌, ℕ, [], ◌∷◌, length, OnOk, IfOk, IfErr, MatchResult};
-ghost use Rattle.sql_parse.specs.declared.tree.statement.Script.{Script as ScriptTree};
-ghost use Rattle.sql_parse.specs.Lexeme.{first};
-ghost use Rattle.sql_parse.specs.Lexemes.{lexemes};
-ghost use Rattle.sql_parse.specs.Reading.{read, begins};
-ghost use Rattle.sql_parse.specs.Combinators.{optional};
-ghost use Rattle.sql_parse.specs.Nesting.{readers};
-ghost use Rattle.sql_parse.specs.Whole as whole;
-ghost use Rattle.sql_parse.specs.Whole.{Gives};
-ghost use Rattle.sql_parse.specs.Verdict.{IsScript, Refuses, SyntaxAt, TooDeepAt, IsRefusedWith, limit};
-ghost use Rattle.sql_parse.specs.Statements as form;
+ghost use Rattle.sql_grammar.specs.declared.tree.statement.Script.{Script as ScriptTree};
+ghost use Rattle.sql_grammar.specs.Lexeme.{first};
+ghost use Rattle.sql_grammar.specs.Lexemes.{lexemes};
+ghost use Rattle.sql_grammar.specs.Reading.{read, begins};
+ghost use Rattle.sql_grammar.specs.Combinators.{optional};
+ghost use Rattle.sql_grammar.specs.Nesting.{readers};
+ghost use Rattle.sql_grammar.specs.Whole as whole;
+ghost use Rattle.sql_parse.specs.Gives.{Gives};
+ghost use Rattle.sql_grammar.specs.Verdict.{IsScript, Refuses, SyntaxAt, TooDeepAt, IsRefusedWith, limit};
+ghost use Rattle.sql_grammar.specs.Statements as form;
 
+use crate::clauses::at_select;
 use crate::cursor::Cursor;
-use crate::fault::{Fault, ParseFault};
 use crate::select::select;
 use crate::statements::{at_copy, at_create, at_drop, copy, create, drop_table};
-use crate::tree::{Script, Statement};
+use sql_grammar::tree::{Script, Statement};
+use sql_grammar::{Fault, ParseFault};
 use sql_lex::{Sign, Token, Tokens, Word};
 use sqlite_items::Items;
 use std::alloc::{AllocError, Global};
 
 /// Whether a statement comes next.
-#[tactic(auto, unfolding(crate::specs::Statements::statement, crate::specs::Selects::select))]
+#[tactic(auto, unfolding(sql_grammar::specs::Statements::statement))]
 fn at_statement(cursor: &Cursor<'_>) -> bool
     ensures { result ≡ begins form.statement (first cursor.now) }
 {
@@ -29,10 +30,10 @@ fn at_statement(cursor: &Cursor<'_>) -> bool
         || at_drop(cursor)
         || at_copy(cursor)
         || cursor.at_word(Word::Explain)
-        || cursor.at_word(Word::Select)
+        || at_select(cursor)
 }
 
-#[tactic(auto, unfolding(crate::specs::Statements::statement))]
+#[tactic(auto, unfolding(sql_grammar::specs::Statements::statement))]
 fn statement(alloc: Global, cursor: &mut Cursor<'_>, depth: u8) -> Result<Statement, Fault>
     ensures gives { Gives (read (readers depth) form.statement cursor.old) result cursor.new }
     ensures shrinks { length cursor.new ≤ length cursor.old }
@@ -91,7 +92,7 @@ fn script(alloc: Global, cursor: &mut Cursor<'_>, depth: u8) -> Result<Script, F
     Ok(Script { statements })
 }
 
-#[tactic(auto, unfolding(crate::specs::Whole::whole))]
+#[tactic(auto, unfolding(sql_grammar::specs::Whole::whole))]
 fn whole(alloc: Global, cursor: &mut Cursor<'_>, depth: u8) -> Result<Script, Fault>
     ensures gives { Gives (whole.whole depth cursor.old) result cursor.new }
     ensures shrinks { length cursor.new ≤ length cursor.old }
@@ -135,7 +136,8 @@ fn parse_tokens(alloc: Global, script: &[u8], tokens: &[Token]) -> Result<Script
 ///
 /// `Syntax` stands at the first token with which no script begins, or at the script's end where it ends too early.
 /// `TooDeep` stands at the token that nests more than 32 levels deep, where no `Syntax` comes before it.
-/// The levels are the parentheses of expressions, of functions' arguments and of subqueries, NOT before a test, and unary minus.
+/// The levels are the parentheses of expressions, of functions' arguments and of subqueries, those behind IN too, NOT before a test,
+/// and unary minus.
 pub fn parse(alloc: Global, tokens: &Tokens<'_>) -> Result<Script, ParseFault>
     // What is accepted is a script.
     ensures is_script { IfOk result (λ found. IsScript limit found (lexemes tokens.now.script tokens.now.list)) }

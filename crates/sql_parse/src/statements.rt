@@ -1,26 +1,26 @@
 //! Statements and scripts, a function for each rule of the grammar.
 ghost use Rattle.std.specs.Prelude.{◌≡◌, ◌≤◌, length};
-ghost use Rattle.sql_parse.specs.Reading.{read, begins};
-ghost use Rattle.sql_parse.specs.Lexeme.{first};
-ghost use Rattle.sql_parse.specs.Combinators.{list};
-ghost use Rattle.sql_parse.specs.Nesting.{readers};
-ghost use Rattle.sql_parse.specs.Whole.{Gives};
-ghost use Rattle.sql_parse.specs.Statements as form;
+ghost use Rattle.sql_grammar.specs.Reading.{read, begins};
+ghost use Rattle.sql_grammar.specs.Lexeme.{first};
+ghost use Rattle.sql_grammar.specs.Combinators.{list};
+ghost use Rattle.sql_grammar.specs.Nesting.{readers};
+ghost use Rattle.sql_parse.specs.Gives.{Gives};
+ghost use Rattle.sql_grammar.specs.Statements as form;
 
 use crate::cursor::{Cursor, DELIMITER, HEADER};
-use crate::fault::Fault;
-use crate::tree::{Column, CopyOption, Sizes, Statement, TypeName};
+use sql_grammar::Fault;
+use sql_grammar::tree::{Column, CopyOption, Sizes, Statement, TypeName};
 use sql_lex::{Sign, Word};
 use sqlite_items::Items;
 use std::alloc::Global;
 
 /// `"(" int [ "," int ] ")"`
-#[tactic(auto, unfolding(crate::specs::Statements::sizes))]
+#[tactic(auto, unfolding(sql_grammar::specs::Statements::sizes))]
 fn sizes(cursor: &mut Cursor<'_>, depth: u8) -> Result<Sizes, Fault>
     ensures gives { Gives (read (readers depth) form.sizes cursor.old) result cursor.new }
     ensures shrinks { length cursor.new ≤ length cursor.old }
 {
-    cursor.sign(Sign::LeftParenthesis)?;
+    cursor.opening()?;
     let first = cursor.integer()?;
     let mut second = None;
     if cursor.at_sign(Sign::Comma) {
@@ -31,13 +31,13 @@ fn sizes(cursor: &mut Cursor<'_>, depth: u8) -> Result<Sizes, Fault>
     Ok(Sizes { first, second })
 }
 
-#[tactic(auto, unfolding(crate::specs::Statements::type_name, crate::specs::Statements::sizes))]
+#[tactic(auto, unfolding(sql_grammar::specs::Statements::type_name, sql_grammar::specs::Statements::sizes))]
 fn type_name(cursor: &mut Cursor<'_>, depth: u8) -> Result<TypeName, Fault>
     ensures gives { Gives (read (readers depth) form.type_name cursor.old) result cursor.new }
     ensures shrinks { length cursor.new ≤ length cursor.old }
 {
     let name = cursor.name()?;
-    if !cursor.at_sign(Sign::LeftParenthesis) {
+    if !cursor.at_opening() {
         return Ok(TypeName { name, sizes: None });
     }
     let sizes = sizes(cursor, depth)?;
@@ -48,7 +48,7 @@ fn type_name(cursor: &mut Cursor<'_>, depth: u8) -> Result<TypeName, Fault>
 }
 
 /// `[ NOT NULL ]`
-#[tactic(auto, unfolding(crate::specs::Statements::not_null))]
+#[tactic(auto, unfolding(sql_grammar::specs::Statements::not_null))]
 fn not_null(cursor: &mut Cursor<'_>, depth: u8) -> Result<bool, Fault>
     ensures gives { Gives (read (readers depth) form.not_null cursor.old) result cursor.new }
     ensures shrinks { length cursor.new ≤ length cursor.old }
@@ -61,7 +61,7 @@ fn not_null(cursor: &mut Cursor<'_>, depth: u8) -> Result<bool, Fault>
     Ok(true)
 }
 
-#[tactic(auto, unfolding(crate::specs::Statements::column))]
+#[tactic(auto, unfolding(sql_grammar::specs::Statements::column))]
 fn column(cursor: &mut Cursor<'_>, depth: u8) -> Result<Column, Fault>
     ensures gives { Gives (read (readers depth) form.column cursor.old) result cursor.new }
     ensures shrinks { length cursor.new ≤ length cursor.old }
@@ -92,7 +92,7 @@ fn columns(alloc: Global, cursor: &mut Cursor<'_>, depth: u8) -> Result<Items<Co
     Ok(found)
 }
 
-#[tactic(auto, unfolding(crate::specs::Statements::create))]
+#[tactic(auto, unfolding(sql_grammar::specs::Statements::create))]
 pub(crate) fn create(alloc: Global, cursor: &mut Cursor<'_>, depth: u8) -> Result<Statement, Fault>
     ensures gives { Gives (read (readers depth) form.create cursor.old) result cursor.new }
     ensures shrinks { length cursor.new ≤ length cursor.old }
@@ -100,13 +100,13 @@ pub(crate) fn create(alloc: Global, cursor: &mut Cursor<'_>, depth: u8) -> Resul
     cursor.word(Word::Create)?;
     cursor.word(Word::Table)?;
     let name = cursor.name()?;
-    cursor.sign(Sign::LeftParenthesis)?;
+    cursor.opening()?;
     let columns = columns(alloc, cursor, depth)?;
     cursor.sign(Sign::RightParenthesis)?;
     Ok(Statement::CreateTable { name, columns })
 }
 
-#[tactic(auto, unfolding(crate::specs::Statements::drop))]
+#[tactic(auto, unfolding(sql_grammar::specs::Statements::drop))]
 pub(crate) fn drop_table(cursor: &mut Cursor<'_>, depth: u8) -> Result<Statement, Fault>
     ensures gives { Gives (read (readers depth) form.drop cursor.old) result cursor.new }
     ensures shrinks { length cursor.new ≤ length cursor.old }
@@ -118,7 +118,7 @@ pub(crate) fn drop_table(cursor: &mut Cursor<'_>, depth: u8) -> Result<Statement
 }
 
 /// TRUE or FALSE.
-#[tactic(auto, unfolding(crate::specs::Statements::truth))]
+#[tactic(auto, unfolding(sql_grammar::specs::Statements::truth))]
 fn truth(cursor: &mut Cursor<'_>, depth: u8) -> Result<bool, Fault>
     ensures gives { Gives (read (readers depth) form.truth cursor.old) result cursor.new }
     ensures shrinks { length cursor.new ≤ length cursor.old }
@@ -131,7 +131,7 @@ fn truth(cursor: &mut Cursor<'_>, depth: u8) -> Result<bool, Fault>
     Ok(false)
 }
 
-#[tactic(auto, unfolding(crate::specs::Statements::option))]
+#[tactic(auto, unfolding(sql_grammar::specs::Statements::option))]
 fn option(cursor: &mut Cursor<'_>, depth: u8) -> Result<CopyOption, Fault>
     ensures gives { Gives (read (readers depth) form.option cursor.old) result cursor.new }
     ensures shrinks { length cursor.new ≤ length cursor.old }
@@ -171,12 +171,12 @@ fn option_list(
     Ok(found)
 }
 
-#[tactic(auto, unfolding(crate::specs::Statements::options))]
+#[tactic(auto, unfolding(sql_grammar::specs::Statements::options))]
 fn options(alloc: Global, cursor: &mut Cursor<'_>, depth: u8) -> Result<Items<CopyOption>, Fault>
     ensures gives { Gives (read (readers depth) form.options cursor.old) result cursor.new }
     ensures shrinks { length cursor.new ≤ length cursor.old }
 {
-    if !cursor.at_sign(Sign::LeftParenthesis) {
+    if !cursor.at_opening() {
         return Ok(Items::new(alloc));
     }
     cursor.shift();
@@ -185,7 +185,7 @@ fn options(alloc: Global, cursor: &mut Cursor<'_>, depth: u8) -> Result<Items<Co
     Ok(found)
 }
 
-#[tactic(auto, unfolding(crate::specs::Statements::copy))]
+#[tactic(auto, unfolding(sql_grammar::specs::Statements::copy))]
 pub(crate) fn copy(alloc: Global, cursor: &mut Cursor<'_>, depth: u8) -> Result<Statement, Fault>
     ensures gives { Gives (read (readers depth) form.copy cursor.old) result cursor.new }
     ensures shrinks { length cursor.new ≤ length cursor.old }
@@ -203,7 +203,7 @@ pub(crate) fn copy(alloc: Global, cursor: &mut Cursor<'_>, depth: u8) -> Result<
 }
 
 /// Whether CREATE TABLE comes next.
-#[tactic(auto, unfolding(crate::specs::Statements::create))]
+#[tactic(auto, unfolding(sql_grammar::specs::Statements::create))]
 pub(crate) fn at_create(cursor: &Cursor<'_>) -> bool
     ensures { result ≡ begins form.create (first cursor.now) }
 {
@@ -211,7 +211,7 @@ pub(crate) fn at_create(cursor: &Cursor<'_>) -> bool
 }
 
 /// Whether DROP TABLE comes next.
-#[tactic(auto, unfolding(crate::specs::Statements::drop))]
+#[tactic(auto, unfolding(sql_grammar::specs::Statements::drop))]
 pub(crate) fn at_drop(cursor: &Cursor<'_>) -> bool
     ensures { result ≡ begins form.drop (first cursor.now) }
 {
@@ -219,7 +219,7 @@ pub(crate) fn at_drop(cursor: &Cursor<'_>) -> bool
 }
 
 /// Whether COPY comes next.
-#[tactic(auto, unfolding(crate::specs::Statements::copy))]
+#[tactic(auto, unfolding(sql_grammar::specs::Statements::copy))]
 pub(crate) fn at_copy(cursor: &Cursor<'_>) -> bool
     ensures { result ≡ begins form.copy (first cursor.now) }
 {

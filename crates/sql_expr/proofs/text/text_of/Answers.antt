@@ -1,7 +1,7 @@
 use Rattle.std.proofs.Common.{ap, ◌∙◌}
 use Rattle.sql_expr.specs.declared.tree.Expr.TheViews.{out-Expr, outs-Constant, outs-Column}
 use Rattle.sql_expr.proofs.Texts.{constant_text, column_text, other_text}
-use Rattle.sql_expr.proofs.Numbers.{column_within}
+use Rattle.sql_expr.proofs.Amounts.{column_within}
 use Rattle.sql_expr.proofs.text.text_of.Goals as goal
 
 pub bounds-row-place : goal.bounds-row-place

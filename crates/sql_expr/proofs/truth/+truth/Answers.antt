@@ -4,13 +4,13 @@ use Rattle.ooc_types.specs.declared.truth.Truth.{Truth as Ternary}
 use Rattle.sql_expr.specs.declared.tree.Expr.{Expr, size-Expr}
 use denote.Param.Weighed.{most, at_most}
 use Rattle.sql_expr.specs.declared.tree.CompareSign.TheVariants.{Equal}
-use Rattle.sql_expr.specs.Kinds.{kind_of}
 use Rattle.sql_expr.specs.Logic.{truth_value}
+use Rattle.sql_expr.specs.Operands.{operand_value}
 use Rattle.sql_expr.specs.Meaning.{value_of, every_from, either_from, comparison}
 use Rattle.sql_expr.proofs.Steps.{drop_is, every_next, either_next, either_fails, every_stops, either_stops, conditions_next, comparables_now, comparables_next}
 use Rattle.sql_expr.specs.declared.tree.Expr.TheViews.{the_lemmas, out-Expr, outs-Constant, outs-Column, outs-Not, outs-Minus, outs-Chain, outs-Every, outs-Either, outs-Compare, outs-IsNull, outs-Like, outs-OneOf, outs-Between}
-use Rattle.sql_expr.proofs.Numbers.{column_within}
-use Rattle.sql_expr.proofs.Truths.{constant_truth, column_truth, not_operand, every_operands, either_operands, compare_operands, null_operand, like_operand, one_of_operands, between_operands, minus_is_number, chain_is_number}
+use Rattle.sql_expr.proofs.Amounts.{column_within}
+use Rattle.sql_expr.proofs.Truths.{constant_truth, column_truth, not_operand, every_operands, either_operands, compare_operands, null_operand, like_operand, one_of_operands, between_operands, minus_is_amount, chain_is_amount}
 use Rattle.sql_expr.proofs.truth.+truth.Goals as goal
 
 pub truth_of-bounds-row-place : goal.truth_of-bounds-row-place
@@ -128,29 +128,29 @@ either-loop-operand-preserved t c =
       going = c.in_default.not-Yes;
     }
 
-pub one_of-compare-requires : goal.one_of-compare-requires
-one_of-compare-requires t c =
+pub among-compare_operand-requires : goal.among-compare_operand-requires
+among-compare_operand-requires t c =
     let is = drop_is c.args.list.now c.loop-constant.constant-index c.constant-item.result c.loop-constant-test.true c.constant-item.is in
-    let h = comparables_now c.args.row.now (kind_of c.args.of.now) c.args.list.now c.loop-constant.constant-index c.constant-item.result is c.loop-constant.invariant.ready in
+    let h = comparables_now c.args.row.now c.args.kind c.args.list.now c.loop-constant.constant-index c.constant-item.result is c.loop-constant.invariant.ready in
     let read = at_most size-Expr c.args.list.now c.loop-constant.constant-index c.constant-item.result c.loop-constant-test.true in
     let bound : size-Expr c.constant-item.result ≤ most size-Expr c.args.list.now =
     subst (λ (e : Expr). size-Expr e ≤ most size-Expr c.args.list.now) (sym c.constant-item.is) read in
-    (search (rules, the_lemmas, bound), (c.requires.fits, (h.0, h.1)))
+    (search (rules, the_lemmas, bound), (c.requires.kind, (h.0, h.1)))
 
-pub one_of-returns-in-Err : goal.one_of-returns-in-Err
-one_of-returns-in-Err t c =
+pub among-returns-in-Err : goal.among-returns-in-Err
+among-returns-in-Err t c =
     let is = drop_is c.args.list.now c.loop-constant.constant-index c.constant-item.result c.loop-constant-test.true c.constant-item.is in
-    let equal = comparison Equal (value_of c.args.row.now c.args.of.now) in
+    let equal = comparison Equal (Ok (operand_value c.args.of.now)) in
     let rest = map equal (map (value_of c.args.row.now) (drop (c.loop-constant.constant-index + 1) c.args.list.now)) in
     sym c.loop-constant.invariant.value
     ∙ ap (λ (es : List Expr). either_from (Ok (truth_value c.loop-constant.found)) (map equal (map (value_of c.args.row.now) es))) is
     ∙ either_fails c.loop-constant.found c.in-Err.fault (equal (value_of c.args.row.now c.constant-item.result)) rest
     c.loop-constant.invariant.going c.in-Err.ensures
 
-pub one_of-returns-in-Yes : goal.one_of-returns-in-Yes
-one_of-returns-in-Yes t c =
+pub among-returns-in-Yes : goal.among-returns-in-Yes
+among-returns-in-Yes t c =
     let is = drop_is c.args.list.now c.loop-constant.constant-index c.constant-item.result c.loop-constant-test.true c.constant-item.is in
-    let equal = comparison Equal (value_of c.args.row.now c.args.of.now) in
+    let equal = comparison Equal (Ok (operand_value c.args.of.now)) in
     let rest = map equal (map (value_of c.args.row.now) (drop (c.loop-constant.constant-index + 1) c.args.list.now)) in
     sym c.loop-constant.invariant.value
     ∙ ap (λ (es : List Expr). either_from (Ok (truth_value c.loop-constant.found)) (map equal (map (value_of c.args.row.now) es))) is
@@ -159,13 +159,13 @@ one_of-returns-in-Yes t c =
     ∙ either_stops c.one-found.result rest c.in-Yes.is
     ∙ ap (λ (t : Ternary). Ok (truth_value t)) (sym c.in-Yes.is)
 
-pub one_of-loop-constant-preserved : goal.one_of-loop-constant-preserved
-one_of-loop-constant-preserved t c =
+pub among-loop-constant-preserved : goal.among-loop-constant-preserved
+among-loop-constant-preserved t c =
     let is = drop_is c.args.list.now c.loop-constant.constant-index c.constant-item.result c.loop-constant-test.true c.constant-item.is in
-    let equal = comparison Equal (value_of c.args.row.now c.args.of.now) in
+    let equal = comparison Equal (Ok (operand_value c.args.of.now)) in
     let rest = map equal (map (value_of c.args.row.now) (drop (c.loop-constant.constant-index + 1) c.args.list.now)) in
     record {
-      ready = comparables_next c.args.row.now (kind_of c.args.of.now) c.args.list.now c.loop-constant.constant-index c.constant-item.result is c.loop-constant.invariant.ready;
+      ready = comparables_next c.args.row.now c.args.kind c.args.list.now c.loop-constant.constant-index c.constant-item.result is c.loop-constant.invariant.ready;
       value = sym (ap (λ (es : List Expr). either_from (Ok (truth_value c.loop-constant.found)) (map equal (map (value_of c.args.row.now) es))) is
           ∙ either_next c.loop-constant.found c.in-Ok.truth c.one-found.result (equal (value_of c.args.row.now c.constant-item.result)) rest
           c.loop-constant.invariant.going c.in-Ok.ensures c.one-found.ensures) ∙ c.loop-constant.invariant.value;
@@ -175,13 +175,13 @@ one_of-loop-constant-preserved t c =
 pub truth_of-returns-in-Minus : goal.truth_of-returns-in-Minus
 truth_of-returns-in-Minus t c =
     absurd (elim c.in-Minus.is [
-      | inl h ↦ minus_is_number c.args.row.now c.args.expr.now h.0 h.1 c.requires.fits c.requires.condition (ap out-Expr h.2 ∙ outs-Minus h.0 h.1)
-      | inr h ↦ chain_is_number c.args.row.now c.args.expr.now h.0 h.1 c.requires.fits c.requires.condition (ap out-Expr h.2 ∙ outs-Chain h.0 h.1)
+      | inl h ↦ minus_is_amount c.args.row.now c.args.expr.now h.0 h.1 c.requires.fits c.requires.condition (ap out-Expr h.2 ∙ outs-Minus h.0 h.1)
+      | inr h ↦ chain_is_amount c.args.row.now c.args.expr.now h.0 h.1 c.requires.fits c.requires.condition (ap out-Expr h.2 ∙ outs-Chain h.0 h.1)
     ])
 
 pub truth_of-returns-in-Minus-2 : goal.truth_of-returns-in-Minus-2
 truth_of-returns-in-Minus-2 t c =
     absurd (elim c.in-Minus.is [
-      | inl h ↦ minus_is_number c.args.row.now c.args.expr.now h.0 h.1 c.requires.fits c.requires.condition (ap out-Expr h.2 ∙ outs-Minus h.0 h.1)
-      | inr h ↦ chain_is_number c.args.row.now c.args.expr.now h.0 h.1 c.requires.fits c.requires.condition (ap out-Expr h.2 ∙ outs-Chain h.0 h.1)
+      | inl h ↦ minus_is_amount c.args.row.now c.args.expr.now h.0 h.1 c.requires.fits c.requires.condition (ap out-Expr h.2 ∙ outs-Minus h.0 h.1)
+      | inr h ↦ chain_is_amount c.args.row.now c.args.expr.now h.0 h.1 c.requires.fits c.requires.condition (ap out-Expr h.2 ∙ outs-Chain h.0 h.1)
     ])

@@ -5,9 +5,9 @@ use denote.Param.Weighed.{most}
 use Rattle.ooc_types.specs.declared.truth.Truth.TheVariants.{Yes, No}
 use Rattle.ooc_types.specs.declared.value.Value.TheVariants.{Truth}
 use Rattle.sql_expr.specs.declared.tree.CompareSign.TheVariants.{Equal}
-use Rattle.sql_expr.specs.Kinds.{kind_of}
 use Rattle.sql_expr.specs.Logic.{truth_value}
 use Rattle.sql_expr.specs.Meaning.{value_of, every_from, either_from, comparison}
+use Rattle.sql_expr.specs.Operands.{operand_value}
 use Rattle.sql_expr.specs.Ready.{AreConditions, AreComparable}
 use Rattle.sql_expr.proofs.truth.+truth.Given as goal
 
@@ -25,11 +25,11 @@ invariant-either-loop-operand l = record {
   going : l.any ≢ Yes;
 }
 
-abbrev pub invariant-one_of-loop-constant : goal.invariant-one_of-loop-constant
-invariant-one_of-loop-constant l = record {
-  ready : AreComparable l.row (kind_of l.of) (drop l.constant-index l.list);
-  value : either_from (Ok (truth_value l.found)) (map (comparison Equal (value_of l.row l.of)) (map (value_of l.row) (drop l.constant-index l.list)))
-      ≡ either_from (Ok (Truth false)) (map (comparison Equal (value_of l.row l.of)) (map (value_of l.row) l.list));
+abbrev pub invariant-among-loop-constant : goal.invariant-among-loop-constant
+invariant-among-loop-constant l = record {
+  ready : AreComparable l.row l.kind (drop l.constant-index l.list);
+  value : either_from (Ok (truth_value l.found)) (map (comparison Equal (Ok (operand_value l.of))) (map (value_of l.row) (drop l.constant-index l.list)))
+      ≡ either_from (Ok (Truth false)) (map (comparison Equal (Ok (operand_value l.of))) (map (value_of l.row) l.list));
   going : l.found ≢ Yes;
 }
 
@@ -56,3 +56,15 @@ decreases-between l = 8 * max (size-Expr l.of.now) (max (size-Expr l.low.now) (s
 
 abbrev pub decreases-one_of : goal.decreases-one_of
 decreases-one_of l = 8 * max (size-Expr l.of.now) (most size-Expr l.list.now) + 3
+
+abbrev pub decreases-operand_of : goal.decreases-operand_of
+decreases-operand_of l = 8 * size-Expr l.expr.now + 1
+
+abbrev pub decreases-compare_operand : goal.decreases-compare_operand
+decreases-compare_operand l = 8 * size-Expr l.right.now + 1
+
+abbrev pub decreases-among : goal.decreases-among
+decreases-among l = 8 * most size-Expr l.list.now + 2
+
+abbrev pub decreases-within : goal.decreases-within
+decreases-within l = 8 * max (size-Expr l.low.now) (size-Expr l.high.now) + 2

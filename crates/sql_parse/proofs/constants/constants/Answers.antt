@@ -1,11 +1,11 @@
 use Rattle.std.proofs.Common.{◌≡◌, ◌<◌, length, true, [], ◌∷◌, ◌++◌, Err, sym, ◌∙◌, ap, rules, arith}
 use Rattle.std.proofs.lemmas.Grind.{common_steps}
 use Rattle.sql_lex.specs.declared.token.Sign.TheVariants as s
-use Rattle.sql_parse.specs.Lexeme.{first, tail, sees}
-use Rattle.sql_parse.specs.Classes.{sign_class}
-use Rattle.sql_parse.specs.Reading.{read}
-use Rattle.sql_parse.specs.Nesting.{readers}
-use Rattle.sql_parse.specs.Expressions as form
+use Rattle.sql_grammar.specs.Lexeme.{first, tail, sees}
+use Rattle.sql_grammar.specs.Classes.{sign_class}
+use Rattle.sql_grammar.specs.Reading.{read}
+use Rattle.sql_grammar.specs.Nesting.{readers}
+use Rattle.sql_grammar.specs.Expressions as form
 use Rattle.sql_parse.proofs.Lists.{list_started, list_stepped, list_failed, list_ended, seen_some}
 use Rattle.sql_parse.proofs.constants.constants.Goals as goal
 

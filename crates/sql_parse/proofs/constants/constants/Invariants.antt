@@ -1,6 +1,6 @@
 use Rattle.std.proofs.Common.{◌≤◌, length}
-use Rattle.sql_parse.specs.Nesting.{readers}
-use Rattle.sql_parse.specs.Expressions as form
+use Rattle.sql_grammar.specs.Nesting.{readers}
+use Rattle.sql_grammar.specs.Expressions as form
 use Rattle.sql_parse.proofs.Lists.{ListSoFar}
 use Rattle.sql_parse.proofs.constants.constants.Given as goal
 

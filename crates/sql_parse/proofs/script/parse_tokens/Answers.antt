@@ -1,11 +1,11 @@
 use Rattle.std.proofs.Common.{◌≡◌, length, Err, refl, sym, ◌∙◌, ap, inl, inr}
-use Rattle.sql_parse.specs.declared.fault.Fault.TheVariants.{Syntax, TooDeep}
-use Rattle.sql_parse.specs.declared.fault.ParseFault.TheVariants as fault
-use Rattle.sql_parse.specs.Lexemes.{lexemes}
-use Rattle.sql_parse.specs.Verdict.{limit}
-use Rattle.sql_parse.specs.Whole as spec
-use Rattle.sql_parse.proofs.Exact.{is_script, only_script, no_script, syntax_at, too_deep_at}
-use Rattle.sql_parse.proofs.Unique.{no_syntax, no_too_deep, one_syntax, one_too_deep, not_both}
+use Rattle.sql_grammar.specs.declared.fault.Fault.TheVariants.{Syntax, TooDeep}
+use Rattle.sql_grammar.specs.declared.fault.ParseFault.TheVariants as fault
+use Rattle.sql_grammar.specs.Lexemes.{lexemes}
+use Rattle.sql_grammar.specs.Verdict.{limit}
+use Rattle.sql_grammar.specs.Whole as spec
+use Rattle.sql_grammar.proofs.Exact.{is_script, only_script, no_script, syntax_at, too_deep_at}
+use Rattle.sql_grammar.proofs.Unique.{no_syntax, no_too_deep, one_syntax, one_too_deep, not_both}
 use Rattle.sql_parse.proofs.script.parse_tokens.Goals as goal
 
 pub returns-in-Ok-clause-is_script : goal.returns-in-Ok-clause-is_script

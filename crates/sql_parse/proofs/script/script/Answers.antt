@@ -1,12 +1,12 @@
 use Rattle.std.proofs.Common.{◌≡◌, ◌<◌, length, true, [], ◌∷◌, ◌++◌, Err, sym, ◌∙◌, ap, rules, arith}
 use Rattle.std.proofs.lemmas.Grind.{common_steps}
 use Rattle.sql_lex.specs.declared.token.Sign.TheVariants as s
-use Rattle.sql_parse.specs.Lexeme.{first, tail, sees}
-use Rattle.sql_parse.specs.Classes.{sign_class}
-use Rattle.sql_parse.specs.Combinators.{optional}
-use Rattle.sql_parse.specs.Reading.{read}
-use Rattle.sql_parse.specs.Nesting.{readers}
-use Rattle.sql_parse.specs.Statements as form
+use Rattle.sql_grammar.specs.Lexeme.{first, tail, sees}
+use Rattle.sql_grammar.specs.Classes.{sign_class}
+use Rattle.sql_grammar.specs.Combinators.{optional}
+use Rattle.sql_grammar.specs.Reading.{read}
+use Rattle.sql_grammar.specs.Nesting.{readers}
+use Rattle.sql_grammar.specs.Statements as form
 use Rattle.sql_parse.proofs.Lists.{seen_some}
 use Rattle.sql_parse.proofs.Scripts.{script_started, script_not_started, script_stepped, script_failed, script_ended}
 use Rattle.sql_parse.proofs.script.script.Goals as goal

@@ -1,5 +1,5 @@
 use Rattle.std.proofs.Common.{◌≤◌, length}
-use Rattle.sql_parse.specs.Nesting.{readers}
+use Rattle.sql_grammar.specs.Nesting.{readers}
 use Rattle.sql_parse.proofs.Scripts.{ScriptSoFar}
 use Rattle.sql_parse.proofs.script.script.Given as goal
 

@@ -1,6 +1,6 @@
 use Rattle.std.proofs.Common.{◌≤◌, length}
-use Rattle.sql_parse.specs.Nesting.{readers}
-use Rattle.sql_parse.specs.Statements as form
+use Rattle.sql_grammar.specs.Nesting.{readers}
+use Rattle.sql_grammar.specs.Statements as form
 use Rattle.sql_parse.proofs.Lists.{ListSoFar}
 use Rattle.sql_parse.proofs.statements.columns.Given as goal
 

@@ -1,0 +1,11 @@
+pub mod Sets
+pub mod Firsts
+pub mod Laws
+pub mod ManyLaws
+pub mod Forms
+pub mod Lasts
+pub mod Tame
+pub mod Grown
+pub mod Rules
+pub mod Exact
+pub mod Unique

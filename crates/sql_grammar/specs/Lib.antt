@@ -1,0 +1,15 @@
+pub mod Lexeme
+pub mod Form
+pub mod Derives
+pub mod Reading
+pub mod Sound
+pub mod Classes
+pub mod Combinators
+pub mod Expressions
+pub mod Selects
+pub mod Statements
+pub mod Nesting
+pub mod Verdict
+pub mod Whole
+pub mod Lexemes
+pub mod Spans
