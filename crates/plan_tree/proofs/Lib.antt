@@ -1,0 +1,10 @@
+pub mod ColumnLemmas
+pub mod SplitLemmas
+pub mod KeyLemmas
+pub mod JoinLemmas
+pub mod OrderLemmas
+pub mod MovedColumns
+pub mod FreeLemmas
+pub mod FreePlan
+pub mod CoreLemmas
+pub mod WholePlan

@@ -1,0 +1,6 @@
+use Rattle.std.proofs.Common.{◌≡◌, drop}
+use Rattle.sql_scope.specs.Scopes.{after, found, spots, is_in}
+use Rattle.sql_scope.proofs.names.find_in.Given as goal
+
+abbrev pub invariant-loop-place : goal.invariant-loop-place
+invariant-loop-place l = after l.seen (spots (is_in l.source l.name) l.place (drop l.place l.columns)) ≡ found (spots (is_in l.source l.name) 0 l.columns)

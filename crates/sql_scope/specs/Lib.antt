@@ -1,0 +1,11 @@
+pub mod Equality
+pub mod Answer
+pub mod Texts
+pub mod Scopes
+pub mod Operations
+pub mod Dates
+pub mod Literals
+pub mod Trees
+pub mod Parts
+pub mod Calls
+pub mod Within
