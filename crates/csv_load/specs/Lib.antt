@@ -1,0 +1,10 @@
+pub mod Words
+pub mod Numbers
+pub mod Dates
+pub mod Values
+pub mod Puts
+pub mod Rows
+pub mod Formats
+pub mod Parts
+pub mod Ahead
+pub mod RowReaders

@@ -1,0 +1,23 @@
+//! The rows of a CSV file.
+//!
+//! The rows of a file are a definition over the whole file (`specs/Rows.antt`): it is cut into records, each record
+//! into fields, and each field is read by its column's type. The code reads pieces and keeps a place in the file.
+#![tactic(auto)]
+
+mod blanks;
+mod fault;
+mod find;
+mod format;
+mod numbers;
+mod options;
+mod plain;
+mod record;
+mod rows;
+mod typed;
+mod values;
+mod words;
+
+pub use fault::{Refusal, RowFault};
+pub use options::CsvOptions;
+pub use rows::CsvRows;
+pub use typed::{are_typed, is_delimiter};

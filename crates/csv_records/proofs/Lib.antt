@@ -1,0 +1,11 @@
+pub mod Cutting
+pub mod Ranges
+pub mod Filling
+pub mod Marks
+pub mod CutRecords
+pub mod Finding
+pub mod LongRecords
+pub mod PlainFields
+pub mod QuotedFields
+pub mod WholeFiles
+pub mod Readers

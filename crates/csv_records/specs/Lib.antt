@@ -1,0 +1,11 @@
+pub mod Limits
+pub mod Table
+pub mod Stops
+pub mod Cut
+pub mod Files
+pub mod Ahead
+pub mod Buffer
+pub mod Found
+pub mod Reader
+pub mod Fields
+pub mod Unquoting
