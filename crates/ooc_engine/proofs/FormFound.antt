@@ -8,7 +8,8 @@ use Rattle.ooc_types.specs.declared.schema.Column.{Column}
 use Rattle.ooc_engine.specs.declared.form.Form.{Form}
 use Rattle.ooc_engine.specs.declared.statement.Sign.{Sign}
 use Rattle.ooc_engine.specs.declared.statement.Statement.{Statement}
-use Rattle.ooc_engine.specs.ScriptText.{joined, column_words, name_words, sign_text, words_in, front_words, back_words, are_columns, is_formed, statements_of, most, IsSpelled, IsScript}
+use Rattle.ooc_engine.specs.ScriptText.{join_words, column_words, name_words, sign_text, words_in, front_words, back_words, are_columns, is_formed, statements_of, IsSpelled, IsScript}
+use Rattle.ooc_engine.specs.Limits.{most_bytes}
 use Rattle.ooc_engine.specs.declared.form.FormStop.{FormStop}
 use Rattle.ooc_engine.specs.declared.form.FormStop.TheVariants as stop
 use Rattle.ooc_engine.specs.Ends.{IsParsed}
@@ -16,7 +17,7 @@ use Rattle.ooc_engine.specs.FormReading.{Words, behind, first, nothing, sign_of,
 use Rattle.ooc_engine.proofs.FormLemmas.{then_some, behind_is, behind_same, first_is, nothing_is, sign_is, sign_same, columns_are, names_are, columns_same, names_same, AreColumns, AreNames}
 
 pub front_is : (words : Words) (table : List ℕ) (columns : List Column) → front_of words ≡ Some (table, columns)
-    → words ≡ codes "CREATE" ∷ codes "TABLE" ∷ table ∷ codes "(" ∷ joined (map column_words columns) ++ codes ")" ∷ codes ";" ∷ codes "COPY" ∷ table ∷ codes "FROM" ∷ []
+    → words ≡ codes "CREATE" ∷ codes "TABLE" ∷ table ∷ codes "(" ∷ join_words (map column_words columns) ++ codes ")" ∷ codes ";" ∷ codes "COPY" ∷ table ∷ codes "FROM" ∷ []
 unfolding front_of
 front_is words table columns h =
     let a = then_some (behind (codes "CREATE") words) _ (table, columns) h in
@@ -32,18 +33,18 @@ front_is words table columns h =
     let end : k.0 ≡ [] = nothing_is k.0 l.0 l.1 in
     let from : j.0 ≡ codes "FROM" ∷ [] = behind_is (codes "FROM") j.0 k.0 k.1 ∙ ap (λ (w : Words). codes "FROM" ∷ w) end in
     let named : i.0 ≡ c.0.0 ∷ codes "FROM" ∷ [] = behind_is c.0.0 i.0 j.0 j.1 ∙ ap (λ (w : Words). c.0.0 ∷ w) from in
-    let copied : f.0 ≡ codes "COPY" ∷ c.0.0 ∷ codes "FROM" ∷ [] = behind_is (codes "COPY") f.0 i.0 i.1 ∙ ap (λ (w : Words). codes "COPY" ∷ w) named in
-    let ended : e.0.1 ≡ codes ";" ∷ codes "COPY" ∷ c.0.0 ∷ codes "FROM" ∷ [] = behind_is (codes ";") e.0.1 f.0 f.1 ∙ ap (λ (w : Words). codes ";" ∷ w) copied in
-    let declared : d.0 ≡ joined (map column_words e.0.0) ++ codes ")" ∷ codes ";" ∷ codes "COPY" ∷ c.0.0 ∷ codes "FROM" ∷ [] =
-    (columns_are d.0 e.0.0 e.0.1 e.1).are ∙ ap (λ (w : Words). joined (map column_words e.0.0) ++ codes ")" ∷ w) ended in
-    let opened : c.0.1 ≡ codes "(" ∷ joined (map column_words e.0.0) ++ codes ")" ∷ codes ";" ∷ codes "COPY" ∷ c.0.0 ∷ codes "FROM" ∷ [] =
+    let loads : f.0 ≡ codes "COPY" ∷ c.0.0 ∷ codes "FROM" ∷ [] = behind_is (codes "COPY") f.0 i.0 i.1 ∙ ap (λ (w : Words). codes "COPY" ∷ w) named in
+    let ended : e.0.1 ≡ codes ";" ∷ codes "COPY" ∷ c.0.0 ∷ codes "FROM" ∷ [] = behind_is (codes ";") e.0.1 f.0 f.1 ∙ ap (λ (w : Words). codes ";" ∷ w) loads in
+    let declared : d.0 ≡ join_words (map column_words e.0.0) ++ codes ")" ∷ codes ";" ∷ codes "COPY" ∷ c.0.0 ∷ codes "FROM" ∷ [] =
+    (columns_are d.0 e.0.0 e.0.1 e.1).are ∙ ap (λ (w : Words). join_words (map column_words e.0.0) ++ codes ")" ∷ w) ended in
+    let opened : c.0.1 ≡ codes "(" ∷ join_words (map column_words e.0.0) ++ codes ")" ∷ codes ";" ∷ codes "COPY" ∷ c.0.0 ∷ codes "FROM" ∷ [] =
     behind_is (codes "(") c.0.1 d.0 d.1 ∙ ap (λ (w : Words). codes "(" ∷ w) declared in
     let p : ◌≡◌ {A = List ℕ × List Column} (c.0.0, e.0.0) (table, columns) = same_Some (c.0.0, e.0.0) (table, columns) l.2 in
     behind_is (codes "CREATE") words a.0 a.1 ∙ ap (λ (w : Words). codes "CREATE" ∷ w) (behind_is (codes "TABLE") a.0 b.0 b.1 ∙ ap (λ (w : Words). codes "TABLE" ∷ w) (first_is b.0 c.0 c.1 ∙ ap (λ (w : Words). c.0.0 ∷ w) opened))
-    ∙ ap (λ (q : List ℕ × List Column). codes "CREATE" ∷ codes "TABLE" ∷ q.0 ∷ codes "(" ∷ joined (map column_words q.1) ++ codes ")" ∷ codes ";" ∷ codes "COPY" ∷ q.0 ∷ codes "FROM" ∷ []) p
+    ∙ ap (λ (q : List ℕ × List Column). codes "CREATE" ∷ codes "TABLE" ∷ q.0 ∷ codes "(" ∷ join_words (map column_words q.1) ++ codes ")" ∷ codes ";" ∷ codes "COPY" ∷ q.0 ∷ codes "FROM" ∷ []) p
 
 pub front_same : (table : List ℕ) (column : Column) (columns : List Column) → are_columns (column ∷ columns) ≡ true
-    → front_of (codes "CREATE" ∷ codes "TABLE" ∷ table ∷ codes "(" ∷ joined (map column_words (column ∷ columns)) ++ codes ")" ∷ codes ";" ∷ codes "COPY" ∷ table ∷ codes "FROM" ∷ []) ≡ Some (table, column ∷ columns)
+    → front_of (codes "CREATE" ∷ codes "TABLE" ∷ table ∷ codes "(" ∷ join_words (map column_words (column ∷ columns)) ++ codes ")" ∷ codes ";" ∷ codes "COPY" ∷ table ∷ codes "FROM" ∷ []) ≡ Some (table, column ∷ columns)
 unfolding front_of
 front_same table column columns h =
     rw (columns_same column columns (codes ";" ∷ codes "COPY" ∷ table ∷ codes "FROM" ∷ []) h) (rw (behind_same table (codes "FROM" ∷ [])) refl)
@@ -82,7 +83,7 @@ abbrev pub Asked : Type 0
 Asked = List (List ℕ) × List ℕ × Sign × List ℕ
 
 abbrev pub asked_words : List ℕ → Asked → Words
-asked_words table q = codes ";" ∷ codes "SELECT" ∷ joined (map name_words q.0) ++ codes "FROM" ∷ test_words table (q.1, q.2, q.3)
+asked_words table q = codes ";" ∷ codes "SELECT" ∷ join_words (map name_words q.0) ++ codes "FROM" ∷ test_words table (q.1, q.2, q.3)
 
 pub back_is : (table : List ℕ) (words : Words) (q : Asked) → back_of table words ≡ Some q → words ≡ asked_words table q
 unfolding back_of
@@ -91,8 +92,8 @@ back_is table words q h =
     let b = then_some (behind (codes "SELECT") a.0) _ q a.2 in
     let c = then_some (names_of b.0) _ q b.2 in
     let d = then_some (filter_of table c.0.1) _ q c.2 in
-    let chosen : b.0 ≡ joined (map name_words c.0.0) ++ codes "FROM" ∷ test_words table d.0 =
-    (names_are b.0 c.0.0 c.0.1 c.1).are ∙ ap (λ (w : Words). joined (map name_words c.0.0) ++ codes "FROM" ∷ w) (filter_is table c.0.1 d.0 d.1) in
+    let chosen : b.0 ≡ join_words (map name_words c.0.0) ++ codes "FROM" ∷ test_words table d.0 =
+    (names_are b.0 c.0.0 c.0.1 c.1).are ∙ ap (λ (w : Words). join_words (map name_words c.0.0) ++ codes "FROM" ∷ w) (filter_is table c.0.1 d.0 d.1) in
     behind_is (codes ";") words a.0 a.1 ∙ ap (λ (w : Words). codes ";" ∷ w) (behind_is (codes "SELECT") a.0 b.0 b.1 ∙ ap (λ (w : Words). codes "SELECT" ∷ w) chosen)
     ∙ ap (asked_words table) (same_Some (c.0.0, d.0.0, d.0.1, d.0.2) q d.2)
 
@@ -136,7 +137,7 @@ front_of_form f h =
     let counted = (and_parts _ _ (and_parts _ _ named.0).1).0 in
     let one = some_items f.columns counted in
     let columns = (and_parts _ _ named.1).0 in
-    subst (λ (cs : List Column). front_of (codes "CREATE" ∷ codes "TABLE" ∷ f.table ∷ codes "(" ∷ joined (map column_words cs) ++ codes ")" ∷ codes ";" ∷ codes "COPY" ∷ f.table ∷ codes "FROM" ∷ []) ≡ Some (f.table, cs))
+    subst (λ (cs : List Column). front_of (codes "CREATE" ∷ codes "TABLE" ∷ f.table ∷ codes "(" ∷ join_words (map column_words cs) ++ codes ")" ∷ codes ";" ∷ codes "COPY" ∷ f.table ∷ codes "FROM" ∷ []) ≡ Some (f.table, cs))
     (sym one.2) (front_same f.table one.0 one.1 (subst (λ (cs : List Column). are_columns cs ≡ true) one.2 columns))
 
 pub back_of_form : (f : Form) → is_formed f ≡ true → back_of f.table (back_words f) ≡ Some (f.names, f.column, f.sign, f.digits)
@@ -164,19 +165,19 @@ ill_formed bytes f is bad statements s =
     let same : f ≡ s.form = same_Some f s.form (sym is ∙ form_same bytes s.form s.spelled s.formed) in
     false≢true (sym bad ∙ ap is_formed same ∙ s.formed)
 
-pub well_formed : (bytes : List ℕ) (f : Form) → length bytes ≤ most → form_of bytes ≡ Some f → is_formed f ≡ true → IsScript bytes (statements_of f)
+pub well_formed : (bytes : List ℕ) (f : Form) → length bytes ≤ most_bytes → form_of bytes ≡ Some f → is_formed f ≡ true → IsScript bytes (statements_of f)
 well_formed bytes f short is good = record { form = f; short = short; spelled = form_is bytes f is; formed = good; are = refl }
 
 -- bytes are a script of the form, or they aren't
-formed_or_not : (bytes : List ℕ) (form : Option Form) → form_of bytes ≡ form → length bytes ≤ most → ((statements : List Statement) × IsScript bytes statements) ⊎ ((statements : List Statement) → IsScript bytes statements → ⊥)
+formed_or_not : (bytes : List ℕ) (form : Option Form) → form_of bytes ≡ form → length bytes ≤ most_bytes → ((statements : List Statement) × IsScript bytes statements) ⊎ ((statements : List Statement) → IsScript bytes statements → ⊥)
 formed_or_not bytes None is short = inr (no_form bytes is)
 formed_or_not bytes (Some f) is short =
     ⊎_elim (λ (good : is_formed f ≡ true). inl (statements_of f, well_formed bytes f short is good)) (λ (bad : is_formed f ≡ false). inr (ill_formed bytes f is bad)) (cases_Bool (is_formed f))
 
 pub script_or_not : (bytes : List ℕ) → ((statements : List Statement) × IsScript bytes statements) ⊎ ((statements : List Statement) → IsScript bytes statements → ⊥)
 script_or_not bytes =
-    ⊎_elim (λ (long : most < length bytes). inr (λ statements s. let short = s.short in absurd (omega arith)))
-    (λ (short : length bytes ≤ most). formed_or_not bytes (form_of bytes) refl short) (cases_lt most (length bytes))
+    ⊎_elim (λ (long : most_bytes < length bytes). inr (λ statements s. let short = s.short in absurd (omega arith)))
+    (λ (short : length bytes ≤ most_bytes). formed_or_not bytes (form_of bytes) refl short) (cases_lt most_bytes (length bytes))
 
 -- a script has one list of statements
 pub one_script : (bytes : List ℕ) (a b : List Statement) → IsScript bytes a → IsScript bytes b → a ≡ b

@@ -7,10 +7,10 @@ use Rattle.std.proofs.lemmas.Option.{cond_some, none-some, same_Some, some_pair_
 use Rattle.std.proofs.lemmas.Bool.{and_parts, cases_Bool}
 use Rattle.ooc_types.specs.declared.schema.Column.{Column}
 use Rattle.ooc_types.specs.declared.schema.SqlType.{SqlType}
-use Rattle.ooc_types.specs.declared.schema.SqlType.TheVariants.{Boolean, Integer, BigInt, HugeInt, Decimal, Varchar}
+use Rattle.ooc_types.specs.declared.schema.SqlType.TheVariants.{Boolean, Integer, BigInt, HugeInt, Decimal, Date, Varchar}
 use Rattle.ooc_engine.specs.declared.statement.Sign.{Sign}
 use Rattle.ooc_engine.specs.declared.statement.Sign.TheVariants.{Equal, Less, Greater}
-use Rattle.ooc_engine.specs.ScriptText.{joined, type_text, sign_text, column_words, name_words, is_plain, are_columns, is_name, has_column}
+use Rattle.ooc_engine.specs.ScriptText.{join_words, type_text, sign_text, column_words, name_words, is_plain, are_columns, is_name, has_column}
 use Rattle.ooc_engine.specs.FormReading.{Words, behind, first, nothing, type_of, sign_of, column_step, columns_of, names_of}
 
 pub same_bytes : (xs : List ℕ) → bytes_eq xs xs ≡ true
@@ -59,6 +59,7 @@ type_same Boolean h = cc
 type_same BigInt h = cc
 type_same HugeInt h = cc
 type_same (Decimal width scale) h = cc
+type_same Date h = cc
 
 pub sign_is : (word : List ℕ) (sign : Sign) → sign_of word ≡ Some sign → word ≡ sign_text sign
 sign_is word sign h =
@@ -88,7 +89,7 @@ map_none f [] h = refl
 map_none f (x ∷ xs) h = cc
 
 -- an item before others is joined to them by a comma
-joined-cons : (item : Words) (items : List Words) → (items ≡ [] → ⊥) → joined (item ∷ items) ≡ item ++ codes "," ∷ joined items
+joined-cons : (item : Words) (items : List Words) → (items ≡ [] → ⊥) → join_words (item ∷ items) ≡ item ++ codes "," ∷ join_words items
 joined-cons item [] h = absurd (h refl)
 joined-cons item (next ∷ items) h = refl
 
@@ -98,7 +99,7 @@ column_named name kind = record { name = name; kind = kind; nullable = true }
 -- the words are these names, joined by commas, and then FROM
 pub record AreNames (words : Words) (names : List (List ℕ)) (rest : Words) : Type 0 where
   pub some : names ≡ [] → ⊥
-  pub are : words ≡ joined (map name_words names) ++ codes "FROM" ∷ rest
+  pub are : words ≡ join_words (map name_words names) ++ codes "FROM" ∷ rest
 
 more_names : (name : List ℕ) (left : Words) (names : List (List ℕ)) (rest : Words) → AreNames left names rest → AreNames (name ∷ codes "," ∷ left) (name ∷ names) rest
 more_names name left names rest others = record {
@@ -129,14 +130,14 @@ names_are (name ∷ sign ∷ left) names rest h =
     names_step name sign left names rest (names_are left) (cases_of (bytes_eq sign (codes "FROM")) (name ∷ [], left) _ (names, rest) h)
 
 -- such words are read so
-pub names_same : (name : List ℕ) (names : List (List ℕ)) (rest : Words) → names_of (joined (map name_words (name ∷ names)) ++ codes "FROM" ∷ rest) ≡ Some (name ∷ names, rest)
+pub names_same : (name : List ℕ) (names : List (List ℕ)) (rest : Words) → names_of (join_words (map name_words (name ∷ names)) ++ codes "FROM" ∷ rest) ≡ Some (name ∷ names, rest)
 names_same name [] rest = refl
 names_same name (next ∷ names) rest = ap (option_map {U = List (List ℕ) × Words} (λ (p : List (List ℕ) × Words). (name ∷ p.0, p.1))) (names_same next names rest)
 
 -- the words are these columns, joined by commas, and then the closing parenthesis
 pub record AreColumns (words : Words) (columns : List Column) (rest : Words) : Type 0 where
   pub some : columns ≡ [] → ⊥
-  pub are : words ≡ joined (map column_words columns) ++ codes ")" ∷ rest
+  pub are : words ≡ join_words (map column_words columns) ++ codes ")" ∷ rest
 
 more_columns : (name : List ℕ) (kind : SqlType) (left : Words) (columns : List Column) (rest : Words) → AreColumns left columns rest → AreColumns (name ∷ type_text kind ∷ codes "," ∷ left) (column_named name kind ∷ columns) rest
 more_columns name kind left columns rest others = record {
@@ -184,12 +185,12 @@ next_column : (name : List ℕ) (kind : SqlType) (left : Words) → type_of (typ
 next_column name kind left h = ap (λ (k : Option SqlType). column_step name (codes ",") left k (columns_of left)) h
 
 -- such words are read so
-pub columns_same : (column : Column) (columns : List Column) (rest : Words) → are_columns (column ∷ columns) ≡ true → columns_of (joined (map column_words (column ∷ columns)) ++ codes ")" ∷ rest) ≡ Some (column ∷ columns, rest)
+pub columns_same : (column : Column) (columns : List Column) (rest : Words) → are_columns (column ∷ columns) ≡ true → columns_of (join_words (map column_words (column ∷ columns)) ++ codes ")" ∷ rest) ≡ Some (column ∷ columns, rest)
 columns_same column [] rest h =
     let plain = (and_parts _ _ (and_parts _ _ (and_parts _ _ h).0).0).1 in
     last_column column.name column.kind rest (type_same column.kind (and_parts _ _ plain).1) ∙ ap (λ (c : Column). Some (c ∷ [], rest)) (named_again column plain)
 columns_same column (next ∷ columns) rest h =
     let plain = (and_parts _ _ (and_parts _ _ (and_parts _ _ h).0).0).1 in
-    next_column column.name column.kind (joined (map column_words (next ∷ columns)) ++ codes ")" ∷ rest) (type_same column.kind (and_parts _ _ plain).1)
+    next_column column.name column.kind (join_words (map column_words (next ∷ columns)) ++ codes ")" ∷ rest) (type_same column.kind (and_parts _ _ plain).1)
     ∙ ap (option_map {U = List Column × Words} (λ (p : List Column × Words). (column_named column.name column.kind ∷ p.0, p.1))) (columns_same next columns rest (and_parts _ _ h).1)
     ∙ ap (λ (c : Column). Some (c ∷ next ∷ columns, rest)) (named_again column plain)

@@ -5,7 +5,6 @@ pub mod CountedLemmas
 pub mod Opened
 pub mod Top
 pub mod CauseLemmas
-pub mod PlainLemmas
 pub mod SplitLemmas
 pub mod PageLemmas
 pub mod TableLemmas
@@ -18,3 +17,6 @@ pub mod FormFound
 pub mod NameLemmas
 pub mod NamedLemmas
 pub mod StepLemmas
+mod LastLineLemmas
+mod RefusalLemmas
+mod AnswerLemmas

@@ -8,7 +8,7 @@ use Rattle.ooc_engine.proofs.DigitLemmas.{number_short}
 use Rattle.std.proofs.lemmas.Int.{fits_signed_from_abs}
 use Rattle.ooc_types.specs.declared.schema.Column.{Column}
 use Rattle.ooc_types.specs.declared.schema.SqlType.{SqlType}
-use Rattle.ooc_types.specs.declared.schema.SqlType.TheVariants.{Boolean, Integer, BigInt, HugeInt, Decimal, Varchar}
+use Rattle.ooc_types.specs.declared.schema.SqlType.TheVariants.{Boolean, Integer, BigInt, HugeInt, Decimal, Date, Varchar}
 use Rattle.ooc_types.specs.declared.value.Value.{Value}
 use Rattle.ooc_types.specs.declared.value.Value.TheVariants as value
 use Rattle.row_image.specs.declared.cell.CellIn.{CellIn}
@@ -83,6 +83,7 @@ value_takes Boolean text v cell read e = cc
 value_takes BigInt text v cell read e = cc
 value_takes HugeInt text v cell read e = cc
 value_takes (Decimal width scale) text v cell read e = cc
+value_takes Date text v cell read e = cc
 
 meets_none : Meets [] 12 []
 meets_none = record { count = refl; each = λ column within. absurd (omega arith) }

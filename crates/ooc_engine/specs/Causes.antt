@@ -6,22 +6,33 @@ use Rattle.ooc_types.specs.declared.value.Value.{Value}
 use Rattle.ooc_types.specs.declared.refusal.RefusalKind.TheVariants.{NoFile, NotBuilt}
 use Rattle.ooc_engine.specs.declared.form.Form.{Form}
 use Rattle.ooc_engine.specs.declared.statement.Statement.{Statement}
+use Rattle.ooc_engine.specs.declared.statement.Filter.{Filter}
 use Rattle.ooc_engine.specs.declared.settings.Settings.{Settings}
 use Rattle.ooc_engine.specs.declared.status.Status.{Status}
 use Rattle.ooc_engine.specs.declared.status.Status.TheVariants.{Done, Refused, WriteFault}
 use Rattle.ooc_engine.specs.declared.status.Place.TheVariants.{Whole, Record}
 use Rattle.ooc_engine.specs.declared.status.Refusal.{Refusal}
-use Rattle.ooc_engine.specs.Status.{refused, script_refused}
+use Rattle.ooc_engine.specs.Status.{refusal_at, script_refusal}
 use Rattle.ooc_engine.specs.Settings.{settings}
-use Rattle.ooc_engine.specs.ScriptText.{IsSpelled, is_formed, IsScript, most}
+use Rattle.ooc_engine.specs.ScriptText.{IsSpelled, is_formed, number_of, IsScript}
+use Rattle.ooc_engine.specs.Limits.{most_bytes}
+use Rattle.ooc_engine.specs.Catalog.{Table}
 use Rattle.ooc_engine.specs.FileRows.{file_rows}
 use Rattle.ooc_engine.specs.Says.{MayCut}
 
 -- these bytes are a script of this form
 pub record IsFormOf (bytes : List ℕ) (form : Form) : Type 0 where
-  pub short : length bytes ≤ most
+  pub short : length bytes ≤ most_bytes
   pub spelled : IsSpelled form bytes
   pub formed : IsTrue (is_formed form)
+
+-- the filter of a form
+abbrev pub asks : Form → Filter
+asks f = record { column = f.column; sign = f.sign; number = number_of f.digits }
+
+-- the table of a form, with these rows
+abbrev pub table_of : Form → List (List Value) → Table
+table_of f rows = record { schema = f.columns; rows = rows }
 
 -- the words name a script, and no file has its name
 pub record LacksScript (words : List (List ℕ)) (held : Held) : Type 0 where
@@ -64,14 +75,14 @@ pub record Comes (status : Status) (cause : Type 0) (result : Status) : Type 0 w
 
 -- the refusals of the first form
 abbrev pub refusals : List Status
-refusals = script_refused NoFile ∷ script_refused NotBuilt ∷ refused 2 (Record 0 0) NoFile ∷ refused 2 Whole NotBuilt ∷ []
+refusals = script_refusal NoFile ∷ script_refusal NotBuilt ∷ refusal_at 2 (Record 0 0) NoFile ∷ refusal_at 2 Whole NotBuilt ∷ []
 
 -- the answer of a run of these words over these files has its cause
 pub record HasCause (words : List (List ℕ)) (held : Held) (result : Status) : Type 0 where
-  pub no_script : Comes (script_refused NoFile) (LacksScript words held) result
-  pub not_a_script : Comes (script_refused NotBuilt) (HasNoScript words held) result
-  pub no_file : Comes (refused 2 (Record 0 0) NoFile) (LacksFile words held) result
-  pub no_rows : Comes (refused 2 Whole NotBuilt) (HasNoRows words held) result
+  pub no_script : Comes (script_refusal NoFile) (LacksScript words held) result
+  pub not_a_script : Comes (script_refusal NotBuilt) (HasNoScript words held) result
+  pub no_file : Comes (refusal_at 2 (Record 0 0) NoFile) (LacksFile words held) result
+  pub no_rows : Comes (refusal_at 2 Whole NotBuilt) (HasNoRows words held) result
   pub done : Comes Done (HasRows words held) result
   -- nothing else is refused
   pub no_other : (refusal : Refusal) → result ≡ Refused refusal → Contains refusals (Refused refusal)

@@ -11,12 +11,12 @@ use Rattle.ooc_engine.specs.declared.form.FormStop.{FormStop}
 use Rattle.ooc_engine.specs.declared.form.FormStop.TheVariants as stop
 use Rattle.ooc_engine.specs.declared.settings.Settings.{Settings}
 use Rattle.ooc_engine.specs.Lines.{line_of}
-use Rattle.ooc_engine.specs.declared.status.Place.TheVariants.{Record}
-use Rattle.ooc_types.specs.declared.refusal.RefusalKind.TheVariants.{NoFile}
-use Rattle.ooc_engine.specs.Status.{script_refused, refused}
+use Rattle.ooc_engine.specs.declared.status.Refusal.{Refusal}
+use Rattle.ooc_engine.specs.Status.{script_refusal}
 use Rattle.ooc_io.specs.Held.{Held}
 use Rattle.ooc_engine.specs.Script.{Script, IsTree, IsOpened}
-use Rattle.ooc_engine.specs.ScriptText.{IsScript, most}
+use Rattle.ooc_engine.specs.Limits.{most_bytes}
+use Rattle.ooc_engine.specs.ScriptText.{IsScript}
 use Rattle.ooc_engine.specs.Catalog.{Catalog}
 use Rattle.ooc_engine.specs.Block.{Block, IsPrinted}
 use Rattle.ooc_engine.specs.Meaning.{Outcome, Gives, Stops}
@@ -70,13 +70,13 @@ IsOfFiles WriteFault = ⊥
 
 -- the whole file; or why the script is refused, or what may cut the run
 abbrev pub IsScriptRead : Option (List ℕ) → Result (List ℕ) Status → Type 0
-IsScriptRead file (Ok bytes) = (file ≡ Some bytes) × (length bytes ≤ most)
-IsScriptRead file (Err status) = ((kind : RefusalKind) × IsTree file (Err kind) × (status ≡ script_refused kind)) ⊎ MayCut status
+IsScriptRead file (Ok bytes) = (file ≡ Some bytes) × (length bytes ≤ most_bytes)
+IsScriptRead file (Err status) = ((kind : RefusalKind) × IsTree file (Err kind) × (status ≡ script_refusal kind)) ⊎ MayCut status
 
--- a front of the file that is the whole of it or too long; or its refusal, or what may cut the run
-abbrev pub IsFileRead : ℕ → Option (List ℕ) → Result (List ℕ) Status → Type 0
-IsFileRead number file (Err status) = ((file ≡ None) × (status ≡ refused number (Record 0 0) NoFile)) ⊎ MayCut status
-IsFileRead number file (Ok bytes) = (whole : List ℕ) × (file ≡ Some whole) × IsReadUpTo most whole bytes
+-- a front of the file that is the whole of it or too long; or, where there is none, this refusal; or what may cut the run
+abbrev pub IsFileRead : Refusal → Option (List ℕ) → Result (List ℕ) Status → Type 0
+IsFileRead missing file (Err status) = ((file ≡ None) × (status ≡ Refused missing)) ⊎ MayCut status
+IsFileRead missing file (Ok bytes) = (whole : List ℕ) × (file ≡ Some whole) × IsReadUpTo most_bytes whole bytes
 
 -- the statements of a script's bytes, none, or want of memory
 abbrev pub IsParsed : List ℕ → Result (List Statement) FormStop → Type 0

@@ -9,7 +9,8 @@ use Rattle.ooc_types.specs.declared.schema.SqlType.{SqlType}
 use Rattle.ooc_types.specs.declared.schema.SqlType.TheVariants.{Integer, Varchar}
 use Rattle.ooc_types.specs.declared.value.Value.{Value}
 use Rattle.ooc_types.specs.declared.value.Value.TheVariants.{Number, Text}
-use Rattle.ooc_engine.specs.ScriptText.{is_small, is_digit, is_made_of, is_number, number_of, most}
+use Rattle.ooc_engine.specs.ScriptText.{is_small, is_digit, is_made_of, is_number, number_of}
+use Rattle.ooc_engine.specs.Limits.{most_bytes}
 
 -- the records of a text whose last byte is a line feed
 abbrev pub records_of : List ℕ → Option (List (List ℕ))
@@ -46,4 +47,4 @@ rows_behind_header columns (header ∷ records) = if is_header header then rows_
 
 -- the rows of a file of the form
 abbrev pub file_rows : List Column → List ℕ → Option (List (List Value))
-file_rows columns bytes = if nat_le (length bytes) most then option_and_then (rows_behind_header columns) (records_of bytes) else None
+file_rows columns bytes = if nat_le (length bytes) most_bytes then option_and_then (rows_behind_header columns) (records_of bytes) else None

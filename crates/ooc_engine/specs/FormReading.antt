@@ -11,7 +11,8 @@ use Rattle.ooc_engine.specs.declared.form.FormStop.{FormStop}
 use Rattle.ooc_engine.specs.declared.form.FormStop.TheVariants as stop
 use Rattle.ooc_engine.specs.declared.statement.Sign.{Sign}
 use Rattle.ooc_engine.specs.declared.statement.Sign.TheVariants.{Equal, Less, Greater}
-use Rattle.ooc_engine.specs.ScriptText.{words_in, is_formed, most}
+use Rattle.ooc_engine.specs.ScriptText.{words_in, is_formed}
+use Rattle.ooc_engine.specs.Limits.{most_bytes}
 
 infixl 10 ◌>>=◌
 abbrev pub ◌>>=◌ : {A B : Type 0} → Option A → (A → Option B) → Option B

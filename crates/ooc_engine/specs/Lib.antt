@@ -18,4 +18,7 @@ pub mod Says
 pub mod Counted
 pub mod Ends
 pub mod Causes
-pub mod Plain
+pub mod LastLine
+pub mod Refusals
+pub mod Answers
+pub mod Limits

@@ -5,7 +5,7 @@ use Rattle.std.specs.Str.{bytes_eq}
 use Rattle.ooc_io.specs.Held.{Held}
 use Rattle.ooc_types.specs.declared.schema.Column.{Column}
 use Rattle.ooc_types.specs.declared.value.Value.{Value}
-use Rattle.ooc_types.specs.declared.value.Value.TheVariants.{Null, Truth, Number, Text}
+use Rattle.ooc_types.specs.declared.value.Value.TheVariants.{Null, Truth, Number, Day, Text}
 use Rattle.ooc_types.specs.declared.refusal.RefusalKind.{RefusalKind}
 use Rattle.ooc_types.specs.declared.refusal.RefusalKind.TheVariants.{NoFile, NotBuilt}
 use Rattle.ooc_engine.specs.declared.statement.Statement.{Statement}
@@ -17,7 +17,7 @@ use Rattle.ooc_engine.specs.declared.status.Status.{Status}
 use Rattle.ooc_engine.specs.declared.status.Place.{Place}
 use Rattle.ooc_engine.specs.declared.status.Place.TheVariants.{Whole, Record}
 use Rattle.ooc_engine.specs.declared.settings.Settings.{Settings}
-use Rattle.ooc_engine.specs.Status.{refused}
+use Rattle.ooc_engine.specs.Status.{refusal_at}
 use Rattle.ooc_engine.specs.Catalog.{Catalog, Table, table_at, with_table, more_rows}
 use Rattle.ooc_engine.specs.Block.{Block, no_block, InAnyOrder}
 use Rattle.ooc_engine.specs.FileRows.{file_rows}
@@ -30,23 +30,23 @@ pub data Outcome : Type 0 where
   Stops : (stops : List Status) → Outcome
 
 abbrev pub stops_at : ℕ → Place → RefusalKind → Outcome
-stops_at number place kind = Stops (refused number place kind ∷ [])
+stops_at number place kind = Stops (refusal_at number place kind ∷ [])
 
 -- A new table has no rows. A name that a table has, and columns that aren't those of the first form, are not built yet.
-abbrev pub created : ℕ → Catalog → List ℕ → List Column → Option Table → Outcome
-created number catalog name columns None =
+abbrev pub create_outcome : ℕ → Catalog → List ℕ → List Column → Option Table → Outcome
+create_outcome number catalog name columns None =
     if is_table columns then Gives (with_table catalog name (record { schema = columns; rows = [] })) no_block else stops_at number Whole NotBuilt
-created number catalog name columns (Some table) = stops_at number Whole NotBuilt
+create_outcome number catalog name columns (Some table) = stops_at number Whole NotBuilt
 
 -- the rows come behind those that the table has
-abbrev pub loaded : ℕ → Catalog → List ℕ → Table → Option (List (List Value)) → Outcome
-loaded number catalog name table (Some rows) = Gives (with_table catalog name (more_rows table rows)) no_block
-loaded number catalog name table None = stops_at number Whole NotBuilt
+abbrev pub load_outcome : ℕ → Catalog → List ℕ → Table → Option (List (List Value)) → Outcome
+load_outcome number catalog name table (Some rows) = Gives (with_table catalog name (more_rows table rows)) no_block
+load_outcome number catalog name table None = stops_at number Whole NotBuilt
 
-abbrev pub copied : ℕ → Catalog → List ℕ → Option Table → Option (List ℕ) → Outcome
-copied number catalog name None file = stops_at number Whole NotBuilt
-copied number catalog name (Some table) None = stops_at number (Record 0 0) NoFile
-copied number catalog name (Some table) (Some bytes) = loaded number catalog name table (file_rows table.schema bytes)
+abbrev pub copy_outcome : ℕ → Catalog → List ℕ → Option Table → Option (List ℕ) → Outcome
+copy_outcome number catalog name None file = stops_at number Whole NotBuilt
+copy_outcome number catalog name (Some table) None = stops_at number (Record 0 0) NoFile
+copy_outcome number catalog name (Some table) (Some bytes) = load_outcome number catalog name table (file_rows table.schema bytes)
 
 -- the place of the column of that name, or past the end
 abbrev pub place_of : List Column → List ℕ → ℕ
@@ -66,6 +66,7 @@ abbrev pub passes : Sign → ℕ → Value → Bool
 passes sign number (Number digits scale) = compares sign digits (pos number)
 passes sign number Null = false
 passes sign number (Truth truth) = false
+passes sign number (Day day) = false
 passes sign number (Text bytes) = false
 
 -- the rows that the filter lets through, in the table's order
@@ -87,13 +88,13 @@ is_asked schema names test = (is_count (length names) && have_columns schema nam
 abbrev pub picked_rows : Table → List (List ℕ) → Filter → List (List Value)
 picked_rows table names test = map (picked_row table.schema names) (kept_rows table test)
 
-abbrev pub selected : ℕ → Catalog → List (List ℕ) → Filter → Option Table → Outcome
-selected number catalog names test None = stops_at number Whole NotBuilt
-selected number catalog names test (Some table) =
+abbrev pub select_outcome : ℕ → Catalog → List (List ℕ) → Filter → Option Table → Outcome
+select_outcome number catalog names test None = stops_at number Whole NotBuilt
+select_outcome number catalog names test (Some table) =
     if is_asked table.schema names test then Gives catalog (InAnyOrder (picked_columns table.schema names) (picked_rows table names test)) else stops_at number Whole NotBuilt
 
 -- What statement number `number` does over a catalog. The settings bound no statement of the first form.
 unfoldable pub outcome : Settings → Held → ℕ → Catalog → Statement → Outcome
-outcome settings held number catalog (Create table columns) = created number catalog table columns (table_at catalog table)
-outcome settings held number catalog (Copy table file) = copied number catalog table (table_at catalog table) (get held file)
-outcome settings held number catalog (Select table names test) = selected number catalog names test (table_at catalog table)
+outcome settings held number catalog (Create table columns) = create_outcome number catalog table columns (table_at catalog table)
+outcome settings held number catalog (Copy table file) = copy_outcome number catalog table (table_at catalog table) (get held file)
+outcome settings held number catalog (Select table names test) = select_outcome number catalog names test (table_at catalog table)

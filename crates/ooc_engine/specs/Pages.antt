@@ -1,4 +1,4 @@
--- How a table keeps its rows: in pages of 4,096 bytes, of which the last one is being filled.
+-- How a table keeps its rows: in pages, of which the last one is being filled.
 use Rattle.std.specs.Prelude.{ℕ, ◌≡◌, ◌≤◌, ◌<◌, List, [], ◌∷◌, ◌++◌, map, length, All, IsTrue}
 use Rattle.row_image.specs.declared.cell.CellIn.{CellIn}
 use Rattle.row_image.specs.declared.layout.CellKind.{CellKind}
@@ -8,6 +8,7 @@ use Rattle.row_image.specs.Image.{parts_of}
 use Rattle.row_image.specs.Rules.{IsAccepted}
 use Rattle.ooc_types.specs.declared.schema.Column.{Column}
 use Rattle.ooc_types.specs.declared.value.Value.{Value}
+use Rattle.ooc_engine.specs.Limits.{page_bytes}
 use Rattle.ooc_engine.specs.ScriptText.{is_table}
 use Rattle.ooc_engine.specs.Stored.{cell_kinds, cell_value, rows_in}
 
@@ -17,7 +18,7 @@ given_values cells = map cell_value (map given_cell cells)
 
 -- an accepted page of rows. None of its texts is long, so one part has all of its rows.
 pub record IsRowPage (kinds : List CellKind) (image : List ℕ) : Type 0 where
-  pub whole : length image ≡ 4096
+  pub whole : length image ≡ page_bytes
   pub accepted : IsAccepted (Rows kinds) image
   pub few : length (parts_of image) ≤ 1
 

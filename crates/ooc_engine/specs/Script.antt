@@ -10,7 +10,7 @@ use Rattle.ooc_engine.specs.declared.status.Status.TheVariants.{Usage}
 use Rattle.ooc_engine.specs.declared.status.UsageFault.{UsageFault}
 use Rattle.ooc_engine.specs.declared.settings.Settings.{Settings}
 use Rattle.ooc_engine.specs.Settings.{settings}
-use Rattle.ooc_engine.specs.Status.{script_refused}
+use Rattle.ooc_engine.specs.Status.{script_refusal}
 use Rattle.ooc_engine.specs.ScriptText.{IsScript}
 
 pub record Script : Type 0 where
@@ -26,7 +26,7 @@ IsTree (Some bytes) (Err kind) = (kind ≡ NotBuilt) × ((statements : List Stat
 
 abbrev pub script_of : Settings → Result (List Statement) RefusalKind → Result Script Status
 script_of settings (Ok statements) = Ok (record { settings = settings; statements = statements })
-script_of settings (Err kind) = Err (script_refused kind)
+script_of settings (Err kind) = Err (script_refusal kind)
 
 abbrev pub IsOpenedWith : Result Settings UsageFault → Held → Result Script Status → Type 0
 IsOpenedWith (Err fault) held script = script ≡ Err (Usage fault)

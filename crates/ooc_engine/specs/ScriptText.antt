@@ -14,6 +14,7 @@ use Rattle.sql_lex.specs.Words.{word_of}
 use Rattle.ooc_types.specs.declared.schema.Column.{Column}
 use Rattle.ooc_types.specs.declared.schema.SqlType.{SqlType}
 use Rattle.ooc_types.specs.declared.schema.SqlType.TheVariants.{Integer, Varchar}
+use Rattle.ooc_engine.specs.Limits.{most_bytes}
 use Rattle.ooc_engine.specs.declared.form.Form.{Form}
 use Rattle.ooc_engine.specs.declared.statement.Statement.{Statement}
 use Rattle.ooc_engine.specs.declared.statement.Statement.TheVariants.{Create, Copy, Select}
@@ -35,21 +36,21 @@ abbrev pub is_digit : ℕ → Bool
 is_digit byte = nat_le 48 byte && nat_le byte 57
 
 -- a sign between blanks, and any other byte as it is
-abbrev pub parted : ℕ → List ℕ
-parted byte = if is_sign byte then 32 ∷ byte ∷ 32 ∷ [] else byte ∷ []
+abbrev pub part_signs : ℕ → List ℕ
+part_signs byte = if is_sign byte then 32 ∷ byte ∷ 32 ∷ [] else byte ∷ []
 
 abbrev pub has_bytes : List ℕ → Bool
 has_bytes bytes = nat_le 1 (length bytes)
 
 -- the words of a text, each sign one of them
 abbrev pub words_in : List ℕ → List (List ℕ)
-words_in text = filter has_bytes (slice_split is_blank (flat_map parted text))
+words_in text = filter has_bytes (slice_split is_blank (flat_map part_signs text))
 
 -- the words of some items with a comma between any two of them
-abbrev pub joined : List (List (List ℕ)) → List (List ℕ)
-joined [] = []
-joined (item ∷ []) = item
-joined (item ∷ next ∷ items) = item ++ codes "," ∷ joined (next ∷ items)
+abbrev pub join_words : List (List (List ℕ)) → List (List ℕ)
+join_words [] = []
+join_words (item ∷ []) = item
+join_words (item ∷ next ∷ items) = item ++ codes "," ∷ join_words (next ∷ items)
 
 abbrev pub type_text : SqlType → List ℕ
 type_text Integer = codes "INTEGER"
@@ -73,12 +74,12 @@ name_words name = name ∷ []
 
 -- what stands before the file's name
 abbrev pub front_words : Form → List (List ℕ)
-front_words f = codes "CREATE" ∷ codes "TABLE" ∷ f.table ∷ codes "(" ∷ joined (map column_words f.columns)
+front_words f = codes "CREATE" ∷ codes "TABLE" ∷ f.table ∷ codes "(" ∷ join_words (map column_words f.columns)
     ++ codes ")" ∷ codes ";" ∷ codes "COPY" ∷ f.table ∷ codes "FROM" ∷ []
 
 -- what stands behind it
 abbrev pub back_words : Form → List (List ℕ)
-back_words f = codes ";" ∷ codes "SELECT" ∷ joined (map name_words f.names)
+back_words f = codes ";" ∷ codes "SELECT" ∷ join_words (map name_words f.names)
     ++ codes "FROM" ∷ f.table ∷ codes "WHERE" ∷ f.column ∷ sign_text f.sign ∷ f.digits ∷ codes ";" ∷ []
 
 -- these bytes spell it
@@ -148,14 +149,10 @@ abbrev pub statements_of : Form → List Statement
 statements_of f = Create f.table f.columns ∷ Copy f.table f.file
     ∷ Select f.table f.names (record { column = f.column; sign = f.sign; number = number_of f.digits }) ∷ []
 
--- the longest script
-abbrev pub most : ℕ
-most = 1048576
-
 -- these bytes are a script of the form, with these statements
 pub record IsScript (bytes : List ℕ) (statements : List Statement) : Type 0 where
   pub form : Form
-  pub short : length bytes ≤ most
+  pub short : length bytes ≤ most_bytes
   pub spelled : IsSpelled form bytes
   pub formed : IsTrue (is_formed form)
   pub are : statements ≡ statements_of form

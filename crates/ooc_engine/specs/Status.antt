@@ -6,12 +6,12 @@ use Rattle.ooc_engine.specs.declared.status.Place.TheVariants.{Whole}
 use Rattle.ooc_engine.specs.declared.status.Status.{Status}
 use Rattle.ooc_engine.specs.declared.status.Status.TheVariants.{Done, Refused, Usage, ReadFault, WriteFault, OutOfMemory}
 
-abbrev pub refused : ℕ → Place → RefusalKind → Status
-refused statement place kind = Refused (record { statement = statement; place = place; kind = kind })
+abbrev pub refusal_at : ℕ → Place → RefusalKind → Status
+refusal_at statement place kind = Refused (record { statement = statement; place = place; kind = kind })
 
 -- the script as a whole, whose refusals have the number 0
-abbrev pub script_refused : RefusalKind → Status
-script_refused kind = refused 0 Whole kind
+abbrev pub script_refusal : RefusalKind → Status
+script_refusal kind = refusal_at 0 Whole kind
 
 -- the exit status of the program
 abbrev pub code_of : Status → ℕ

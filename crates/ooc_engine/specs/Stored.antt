@@ -6,7 +6,7 @@ use Rattle.row_image.specs.Cells.{StoredCell, NullCell, NumberCell, ShortCell, L
 use Rattle.row_image.specs.Image.{StoredRow, rows_of}
 use Rattle.ooc_types.specs.declared.schema.Column.{Column}
 use Rattle.ooc_types.specs.declared.schema.SqlType.{SqlType}
-use Rattle.ooc_types.specs.declared.schema.SqlType.TheVariants.{Boolean, Integer, BigInt, HugeInt, Decimal, Varchar}
+use Rattle.ooc_types.specs.declared.schema.SqlType.TheVariants.{Boolean, Integer, BigInt, HugeInt, Decimal, Date, Varchar}
 use Rattle.ooc_types.specs.declared.value.Value.{Value}
 use Rattle.ooc_types.specs.declared.value.Value.TheVariants as value
 
@@ -17,6 +17,7 @@ cell_kind Integer = cell.Four
 cell_kind BigInt = cell.Eight
 cell_kind HugeInt = cell.Sixteen
 cell_kind (Decimal width scale) = if nat_le width 18 then cell.Eight else cell.Sixteen
+cell_kind Date = cell.Four
 cell_kind Varchar = cell.Text
 
 -- the cells of a table's rows

@@ -3,29 +3,26 @@ ghost use Rattle.std.specs.Prelude.{◌≡◌, ◌≢◌, ◌≤◌, [], IfErr, 
 ghost use Rattle.std.specs.FinMap.{get};
 ghost use Rattle.ooc_io.specs.Counts.{Rose};
 ghost use Rattle.ooc_engine.specs.Catalog.{table_at};
-ghost use Rattle.ooc_engine.specs.Meaning.{outcome, created, copied, selected, is_asked};
+ghost use Rattle.ooc_engine.specs.Meaning.{outcome, create_outcome, copy_outcome, select_outcome, is_asked};
 ghost use Rattle.ooc_engine.specs.ScriptText.{is_table};
-ghost use Rattle.ooc_engine.specs.Status.{refused};
-ghost use Rattle.ooc_engine.specs.Ends.{IsStep, IsOfFiles, IsFileRead, result_items};
+ghost use Rattle.ooc_engine.specs.Status.{refusal_at};
+ghost use Rattle.ooc_engine.specs.Ends.{IsStep, IsOfFiles, result_items};
 
 use crate::catalog::{Catalog, small_letters};
 use crate::form::FormStop;
 use crate::naming::{has_integer, have_columns, is_count, is_table};
-use crate::reading::{ReadFailure, read_up_to};
+use crate::reading::read_named;
 use crate::select::select;
 use crate::settings::Settings;
 use crate::statement::{Filter, Names, Statement};
 use crate::status::{Place, Refusal, Status};
 use crate::table::Table;
-use ooc_io::{Files, OpenFault};
+use ooc_io::Files;
 use ooc_types::{Column, RefusalKind, Schema, Text};
 use std::alloc::Global;
 
-/// The bytes of the longest file.
-const MOST: usize = 1_048_576;
-
-pub fn refused(statement: u32, place: Place, kind: RefusalKind) -> Status
-    ensures { result ≡ refused statement place kind }
+pub fn refusal_at(statement: u32, place: Place, kind: RefusalKind) -> Status
+    ensures { result ≡ refusal_at statement place kind }
 {
     Status::Refused(Refusal {
         statement,
@@ -35,39 +32,9 @@ pub fn refused(statement: u32, place: Place, kind: RefusalKind) -> Status
 }
 
 pub fn not_built(statement: u32) -> Status
-    ensures { result ≡ refused statement Place.Whole RefusalKind.NotBuilt }
+    ensures { result ≡ refusal_at statement Place.Whole RefusalKind.NotBuilt }
 {
-    refused(statement, Place::Whole, RefusalKind::NotBuilt)
-}
-
-// The file's bytes; of a longer one, a front that is too long.
-fn read_file<F: Files>(
-    alloc: Global,
-    number: u32,
-    files: &mut F,
-    name: &str,
-) -> Result<Vec<u8>, Status>
-    ensures read { IfSome (F.holds files.old) (λ held. IsFileRead number (get held name.now) (result_items result)) }
-    ensures holds { F.holds files.new ≡ F.holds files.old }
-    ensures later { F.faults files.old ≤ F.faults files.new }
-    ensures read_fault { result ≡ Err Status.ReadFault → Rose (F.faults files.old) (F.faults files.new) }
-    ensures kinds { IfErr result IsOfFiles }
-{
-    match files.open(name) {
-        Ok(()) => match read_up_to(alloc, files, MOST) {
-            Ok(bytes) => Ok(bytes),
-            Err(ReadFailure::Read) => Err(Status::ReadFault),
-            Err(ReadFailure::Memory) => Err(Status::OutOfMemory),
-        },
-        Err(OpenFault::Missing) => {
-            let place = Place::Record {
-                number: 0,
-                column: 0,
-            };
-            Err(refused(number, place, RefusalKind::NoFile))
-        }
-        Err(OpenFault::Failed) => Err(Status::ReadFault),
-    }
+    refusal_at(statement, Place::Whole, RefusalKind::NotBuilt)
 }
 
 // What a statement without a result prints.
@@ -85,7 +52,7 @@ fn create(
     columns: &Schema,
     catalog: &mut Catalog,
 ) -> Result<Vec<u8>, Status>
-    ensures step { IsStep (created number catalog.old name.now columns.now (table_at catalog.old name.now)) catalog.new (result_items result) }
+    ensures step { IsStep (create_outcome number catalog.old name.now columns.now (table_at catalog.old name.now)) catalog.new (result_items result) }
     ensures no_read { result ≢ Err Status.ReadFault }
     ensures kinds { IfErr result IsOfFiles }
 {
@@ -112,7 +79,7 @@ fn copy<F: Files>(
     files: &mut F,
 ) -> Result<Vec<u8>, Status>
     ensures step { IfSome (F.holds files.old) (λ held.
-        IsStep (copied number catalog.old name.now (table_at catalog.old name.now) (get held file.now)) catalog.new (result_items result)) }
+        IsStep (copy_outcome number catalog.old name.now (table_at catalog.old name.now) (get held file.now)) catalog.new (result_items result)) }
     ensures holds { F.holds files.new ≡ F.holds files.old }
     ensures later { F.faults files.old ≤ F.faults files.new }
     ensures read_fault { result ≡ Err Status.ReadFault → Rose (F.faults files.old) (F.faults files.new) }
@@ -122,7 +89,15 @@ fn copy<F: Files>(
     if catalog.get(name.as_bytes()).is_none() {
         return Err(not_built(number));
     }
-    match read_file(alloc, number, files, file) {
+    let missing = Refusal {
+        statement: number,
+        place: Place::Record {
+            number: 0,
+            column: 0,
+        },
+        kind: RefusalKind::NoFile,
+    };
+    match read_named(alloc, files, file, missing) {
         Ok(bytes) => match catalog.load(alloc, name.as_bytes(), bytes.as_slice()) {
             Ok(()) => Ok(no_block(alloc)),
             Err(FormStop::NotBuilt) => Err(not_built(number)),
@@ -151,7 +126,7 @@ fn choose(
     filter: &Filter,
     catalog: &Catalog,
 ) -> Result<Vec<u8>, Status>
-    ensures step { IsStep (selected number catalog.now names.now filter.now (table_at catalog.now name.now)) catalog.now (result_items result) }
+    ensures step { IsStep (select_outcome number catalog.now names.now filter.now (table_at catalog.now name.now)) catalog.now (result_items result) }
     ensures no_read { result ≢ Err Status.ReadFault }
     ensures kinds { IfErr result IsOfFiles }
 {

@@ -1,7 +1,8 @@
 //! The statements of a script of the first form: a table, a file that is loaded into it, and a filter.
 ghost use Rattle.std.specs.Prelude.{◌≡◌, ◌<◌, ◌≤◌, ◌^◌, IfOk, IsTrue, [], ◌∷◌, length, vec_len};
 ghost use Rattle.ooc_engine.specs.Ends.{IsParsed, result_items};
-ghost use Rattle.ooc_engine.specs.ScriptText.{is_formed, statements_of, most};
+ghost use Rattle.ooc_engine.specs.ScriptText.{is_formed, statements_of};
+ghost use Rattle.ooc_engine.specs.Limits.{most_bytes};
 ghost use Rattle.ooc_engine.specs.FormReading.{Reads, result_now, result_pair, result_rest, result_head, behind, result_test, result_asked, first, nothing, type_of, sign_of, columns_of, names_of, front_of, filter_of, back_of, form_of_parts, form_of};
 
 use crate::naming::{
@@ -272,7 +273,7 @@ fn statements_of(alloc: Global, form: Form) -> Result<Vec<Statement>, OutOfMemor
 
 /// The statements of a script's bytes.
 pub fn parse(alloc: Global, text: &[u8]) -> Result<Vec<Statement>, FormStop>
-    requires { length text.now ≤ most }
+    requires { length text.now ≤ most_bytes }
     ensures parsed { IsParsed text.now (result_items result) }
     ensures few { IfOk result (λ statements. vec_len statements < 2 ^ 31) }
 {

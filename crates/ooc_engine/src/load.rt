@@ -7,6 +7,7 @@ ghost use Rattle.ooc_engine.specs.Parts.{option_now, parts_left};
 ghost use Rattle.ooc_engine.specs.Loaded.{Loads, IsRead, IsPushed};
 
 use crate::form::FormStop;
+use crate::limits::MOST_BYTES;
 use crate::naming::{is_digit, is_number, is_small, number_of};
 use crate::split::first_part;
 use crate::table::Table;
@@ -14,15 +15,12 @@ use ooc_types::{Column, OutOfMemory, SqlType};
 use row_image::CellIn;
 use std::alloc::Global;
 
-/// How many bytes a file of the form has at most.
-const MOST: usize = 1_048_576;
-
 /// Adds the rows of a file's bytes to a table. A file that isn't of the form is not built, and leaves the rows before
 /// its first wrong record in the table, or none.
 pub fn load(alloc: Global, table: &mut Table, bytes: &[u8]) -> Result<(), FormStop>
     ensures { Loads table.old (file_rows table.old.schema bytes.now) result table.new }
 {
-    if bytes.len() > MOST || !bytes.ends_with(b"\n") {
+    if bytes.len() > MOST_BYTES || !bytes.ends_with(b"\n") {
         return Err(FormStop::NotBuilt);
     }
     load_text(alloc, table, &bytes[..bytes.len() - 1])

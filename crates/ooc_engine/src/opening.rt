@@ -3,24 +3,22 @@ ghost use Rattle.std.specs.Prelude.{◌≡◌, ◌≢◌, ◌<◌, ◌≤◌, �
 ghost use Rattle.std.specs.FinMap.{get};
 ghost use Rattle.ooc_io.specs.Counts.{Rose};
 ghost use Rattle.ooc_engine.specs.Settings.{settings, words_of};
-ghost use Rattle.ooc_engine.specs.Status.{script_refused};
-ghost use Rattle.ooc_engine.specs.ScriptText.{most};
+ghost use Rattle.ooc_engine.specs.Status.{script_refusal};
+ghost use Rattle.ooc_engine.specs.Limits.{most_bytes};
 ghost use Rattle.ooc_engine.specs.Ends.{IsScriptRead, IsScriptOpened, IsOfFiles, result_items};
 
 use crate::form::{FormStop, parse};
-use crate::reading::{ReadFailure, read_up_to};
+use crate::limits::MOST_BYTES;
+use crate::reading::read_named;
 use crate::settings::{Settings, read_settings};
 use crate::statement::Statement;
 use crate::status::{Place, Refusal, Status};
-use ooc_io::{Files, OpenFault};
+use ooc_io::Files;
 use ooc_types::RefusalKind;
 use std::alloc::Global;
 
-/// The bytes of the longest script.
-const MOST: usize = 1_048_576;
-
-pub fn script_refused(kind: RefusalKind) -> Status
-    ensures { result ≡ script_refused kind }
+pub fn script_refusal(kind: RefusalKind) -> Status
+    ensures { result ≡ script_refusal kind }
 {
     Status::Refused(Refusal {
         statement: 0,
@@ -35,23 +33,19 @@ fn read_script<F: Files>(alloc: Global, files: &mut F, name: &str) -> Result<Vec
     ensures holds { F.holds files.new ≡ F.holds files.old }
     ensures later { F.faults files.old ≤ F.faults files.new }
     ensures cause { result ≡ Err Status.ReadFault → Rose (F.faults files.old) (F.faults files.new) }
-    ensures short { IfOk result (λ text. vec_len text ≤ most) }
+    ensures short { IfOk result (λ text. vec_len text ≤ most_bytes) }
     ensures kinds { IfErr result IsOfFiles }
 {
-    match files.open(name) {
-        Ok(()) => match read_up_to(alloc, files, MOST) {
-            Ok(text) => {
-                if text.len() > MOST {
-                    Err(script_refused(RefusalKind::NotBuilt))
-                } else {
-                    Ok(text)
-                }
-            }
-            Err(ReadFailure::Read) => Err(Status::ReadFault),
-            Err(ReadFailure::Memory) => Err(Status::OutOfMemory),
-        },
-        Err(OpenFault::Missing) => Err(script_refused(RefusalKind::NoFile)),
-        Err(OpenFault::Failed) => Err(Status::ReadFault),
+    let missing = Refusal {
+        statement: 0,
+        place: Place::Whole,
+        kind: RefusalKind::NoFile,
+    };
+    let text = read_named(alloc, files, name, missing)?;
+    if text.len() > MOST_BYTES {
+        Err(script_refusal(RefusalKind::NotBuilt))
+    } else {
+        Ok(text)
     }
 }
 
@@ -73,7 +67,7 @@ pub fn open_script<F: Files>(
     let text = read_script(alloc, files, settings.script.as_str())?;
     match parse(alloc, text.as_slice()) {
         Ok(statements) => Ok((settings, statements)),
-        Err(FormStop::NotBuilt) => Err(script_refused(RefusalKind::NotBuilt)),
+        Err(FormStop::NotBuilt) => Err(script_refusal(RefusalKind::NotBuilt)),
         Err(FormStop::OutOfMemory) => Err(Status::OutOfMemory),
     }
 }

@@ -1,18 +1,17 @@
-//! Pages of rows, of 4,096 bytes.
+//! Pages of rows.
 ghost use Rattle.std.specs.Prelude.{◌≡◌, ◌↔◌, ◌≤◌, ◌++◌, [], ◌∷◌, IfOk, true, false, length};
 ghost use Rattle.row_image.specs.Cells.{Meets};
 ghost use Rattle.row_image.specs.Image.{row_count, rows_of};
 ghost use Rattle.row_image.specs.Layout.{rows_that_fit};
 ghost use Rattle.row_image.specs.Parts.{given_row};
+ghost use Rattle.ooc_engine.specs.Limits.{page_bytes};
 ghost use Rattle.ooc_engine.specs.Pages.{IsRowPage, IsOpenPage};
 
+use crate::limits::PAGE_BYTES;
 use ooc_types::OutOfMemory;
 use row_image::{CellIn, Layout, RowPut, new_rows, write_row};
 use std::alloc::Global;
 use std::marker::Model;
-
-/// How many bytes a page has.
-const PAGE: usize = 4096;
 
 /// A page, which contracts see as its bytes.
 #[derive(Drop)]
@@ -44,7 +43,7 @@ impl Page {
 
 // Makes a page of these bytes, without rows.
 fn begin_rows(layout: &Layout, image: &mut [u8])
-    requires { length image.old ≡ 4096 }
+    requires { length image.old ≡ page_bytes }
     ensures page { IsRowPage layout.now image.new }
     ensures empty { rows_of layout.now image.new ≡ [] }
 {
@@ -57,7 +56,7 @@ pub fn put_row(layout: &Layout, page: &mut [u8], cells: &[CellIn]) -> bool
     requires meets { Meets layout.now 12 cells.now }
     ensures page { IsRowPage layout.now page.new }
     ensures put { result ≡ true → rows_of layout.now page.new ≡ rows_of layout.now page.old ++ given_row cells.now 0 ∷ [] }
-    ensures full { (result ≡ false) ↔ (row_count page.old ≡ rows_that_fit layout.now 4096) }
+    ensures full { (result ≡ false) ↔ (row_count page.old ≡ rows_that_fit layout.now page_bytes) }
     ensures unchanged { result ≡ false → page.new ≡ page.old }
 {
     match write_row(layout, page, cells, 0, None) {
@@ -68,7 +67,7 @@ pub fn put_row(layout: &Layout, page: &mut [u8], cells: &[CellIn]) -> bool
 
 // Makes a page of these bytes, with one row.
 fn begin_with(layout: &Layout, image: &mut [u8], cells: &[CellIn])
-    requires whole { length image.old ≡ 4096 }
+    requires whole { length image.old ≡ page_bytes }
     requires meets { Meets layout.now 12 cells.now }
     requires few { length layout.now ≤ 65 }
     ensures page { IsRowPage layout.now image.new }
@@ -85,7 +84,7 @@ pub fn page_of_row(alloc: Global, layout: &Layout, cells: &[CellIn]) -> Result<V
     ensures page { IfOk result (λ page. IsRowPage layout.now page.items) }
     ensures row { IfOk result (λ page. rows_of layout.now page.items ≡ given_row cells.now 0 ∷ []) }
 {
-    let mut page = vec![in alloc; 0; PAGE]?;
+    let mut page = vec![in alloc; 0; PAGE_BYTES as usize]?;
     begin_with(layout, page.as_mut_slice(), cells);
     Ok(page)
 }

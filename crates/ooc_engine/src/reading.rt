@@ -1,9 +1,12 @@
 //! Reading a file to its end, in pieces.
-ghost use Rattle.std.specs.Prelude.{◌≡◌, ◌<◌, ◌≤◌, ◌^◌, true, IfOk, IfErr, IfSome, vec_len};
+ghost use Rattle.std.specs.Prelude.{◌≡◌, ◌<◌, ◌≤◌, ◌^◌, true, IfOk, IfErr, IfSome, Err, vec_len};
 ghost use Rattle.ooc_io.specs.Counts.{Rose};
-ghost use Rattle.ooc_engine.specs.Ends.{IsReadUpTo};
+ghost use Rattle.std.specs.FinMap.{get};
+ghost use Rattle.ooc_engine.specs.Ends.{IsReadUpTo, IsFileRead, IsOfFiles, result_items};
 
-use ooc_io::{Files, FilesFailed};
+use crate::limits::MOST_BYTES;
+use crate::status::{Refusal, Status};
+use ooc_io::{Files, FilesFailed, OpenFault};
 use std::alloc::{AllocError, Global};
 
 /// How many bytes are asked for at a time.
@@ -37,7 +40,7 @@ impl From<FilesFailed> for ReadFailure {
 }
 
 // So many bytes.
-fn zeroed(alloc: Global, count: usize) -> Result<Vec<u8>, AllocError>
+fn zeros(alloc: Global, count: usize) -> Result<Vec<u8>, AllocError>
     ensures { IfOk result (λ piece. vec_len piece ≡ count) }
 {
     vec![in alloc; 0; count]
@@ -56,7 +59,7 @@ pub fn read_up_to<F: Files>(
     ensures later { F.faults files.old ≤ F.faults files.new }
     ensures cause { IfErr result (λ e. e ≡ ReadFailure.Read → Rose (F.faults files.old) (F.faults files.new)) }
 {
-    let mut piece = zeroed(alloc, PIECE)?;
+    let mut piece = zeros(alloc, PIECE)?;
     let mut text = Vec::new(alloc);
     while text.len() <= most {
         let count = files.read(piece.as_mut_slice())?;
@@ -66,4 +69,29 @@ pub fn read_up_to<F: Files>(
         text.extend_from_slice(&piece[..count])?;
     }
     Ok(text)
+}
+
+/// The bytes of the file of that name; of one with more than `MOST_BYTES`, a front that is longer than that. Where no
+/// file has the name, `missing` is the refusal.
+pub fn read_named<F: Files>(
+    alloc: Global,
+    files: &mut F,
+    name: &str,
+    missing: Refusal,
+) -> Result<Vec<u8>, Status>
+    ensures read { IfSome (F.holds files.old) (λ held. IsFileRead missing (get held name.now) (result_items result)) }
+    ensures holds { F.holds files.new ≡ F.holds files.old }
+    ensures later { F.faults files.old ≤ F.faults files.new }
+    ensures cause { result ≡ Err Status.ReadFault → Rose (F.faults files.old) (F.faults files.new) }
+    ensures kinds { IfErr result IsOfFiles }
+{
+    match files.open(name) {
+        Ok(()) => match read_up_to(alloc, files, MOST_BYTES) {
+            Ok(bytes) => Ok(bytes),
+            Err(ReadFailure::Read) => Err(Status::ReadFault),
+            Err(ReadFailure::Memory) => Err(Status::OutOfMemory),
+        },
+        Err(OpenFault::Missing) => Err(Status::Refused(missing)),
+        Err(OpenFault::Failed) => Err(Status::ReadFault),
+    }
 }

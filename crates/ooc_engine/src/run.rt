@@ -6,7 +6,8 @@ ghost use Rattle.ooc_engine.specs.Settings.{settings, words_of};
 ghost use Rattle.ooc_engine.specs.Catalog.{no_tables};
 ghost use Rattle.ooc_engine.specs.Says.{Says, Ends};
 ghost use Rattle.ooc_engine.specs.Ends.{EndsAs, EndsBy};
-ghost use Rattle.ooc_engine.specs.Causes.{HasCause};
+ghost use Rattle.ooc_engine.specs.LastLine.{EndsInLine};
+ghost use Rattle.ooc_engine.specs.Answers.{EndsOrCut};
 
 use crate::catalog::Catalog;
 use crate::ending::end;
@@ -35,6 +36,7 @@ fn run_alone<F: Files, K: Sink>(
     ensures read_fault { result ≡ Status.ReadFault → Rose (F.faults files.old) (F.faults files.new) }
     ensures write_fault { result ≡ Status.WriteFault → Rose (K.faults out.old) (K.faults out.new) }
     ensures write_told { result ≢ Status.WriteFault → K.faults out.new ≡ K.faults out.old }
+    ensures last { EndsInLine (K.written out.old) (K.written out.new) result }
     ensures complete { Stayed (F.faults files.old) (F.faults files.new) → Stayed (K.faults out.old) (K.faults out.new)
         → IfSome (F.holds files.old) (λ held. Ends no_tables (words_of words.now) held result
         ⊎ (result ≡ Status.OutOfMemory)) }
@@ -77,12 +79,15 @@ pub fn run_script<R: Threads + Wait + Sync, F: Files, K: Sink, L: SpillLane + Se
     ensures usage_told { (fault : _) → settings (words_of words.now) ≡ Err fault → EndsAs (Status.Usage fault) result }
     ensures usage_line { (fault : _) → settings (words_of words.now) ≡ Err fault
         → EndsBy (K.written out.old) (K.written out.new) (Status.Usage fault) result }
-    // Each refusal comes exactly where its cause is, and so does Done.
-    ensures causes { IfSome (F.holds files.old) (λ held. HasCause (words_of words.now) held result) }
+    // Done and each refusal come only where the definition ends the script so; where it does, they come unless a
+    // fault from outside or want of memory does.
+    ensures ends { IfSome (F.holds files.old) (λ held. EndsOrCut no_tables (words_of words.now) held result) }
     // Each fault has its cause.
     ensures read_fault { result ≡ Status.ReadFault → Rose (F.faults files.old) (F.faults files.new) }
     ensures write_fault { result ≡ Status.WriteFault → Rose (K.faults out.old) (K.faults out.new) }
     ensures write_told { result ≢ Status.WriteFault → K.faults out.new ≡ K.faults out.old }
+    // Whatever the files tell, the line of the status stands last, unless the output failed.
+    ensures last { EndsInLine (K.written out.old) (K.written out.new) result }
     // Where no fault came, the status is the script's, or memory ran out.
     ensures complete { Stayed (F.faults files.old) (F.faults files.new) → Stayed (K.faults out.old) (K.faults out.new)
         → IfSome (F.holds files.old) (λ held. Ends no_tables (words_of words.now) held result

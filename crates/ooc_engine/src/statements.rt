@@ -5,6 +5,7 @@ ghost use Rattle.ooc_io.specs.Counts.{Rose};
 ghost use Rattle.ooc_engine.specs.Meaning.{outcome};
 ghost use Rattle.ooc_engine.specs.Says.{Run, IsWritten};
 ghost use Rattle.ooc_engine.specs.Ends.{HasWriteCause};
+ghost use Rattle.ooc_engine.specs.LastLine.{EndsInLine};
 
 use crate::catalog::Catalog;
 use crate::ending::end;
@@ -34,6 +35,7 @@ pub fn run_statements<F: Files, K: Sink>(
     ensures read_fault { result ≡ Status.ReadFault → Rose (F.faults files.old) (F.faults files.new) }
     ensures usage { (fault : _) → result ≢ Status.Usage fault }
     ensures cause { HasWriteCause (K.faults out.old) (K.faults out.new) result }
+    ensures last { EndsInLine (K.written out.old) (K.written out.new) result }
 {
     let mut number = 1;
     for statement in statements {

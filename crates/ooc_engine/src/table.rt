@@ -132,6 +132,7 @@ fn cell_kind(kind: SqlType) -> CellKind
                 CellKind::Sixteen
             }
         }
+        SqlType::Date => CellKind::Four,
         SqlType::Varchar => CellKind::Text,
     }
 }

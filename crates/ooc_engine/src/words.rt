@@ -1,7 +1,7 @@
 //! The words of a script's text, each sign one of them.
 ghost use Rattle.std.specs.Prelude.{◌≡◌, ◌==◌, IfOk, map, flat_map};
 ghost use Rattle.std.specs.List.{slice_split};
-ghost use Rattle.ooc_engine.specs.ScriptText.{is_blank, is_sign, parted, words_in};
+ghost use Rattle.ooc_engine.specs.ScriptText.{is_blank, is_sign, part_signs, words_in};
 
 use ooc_types::{OutOfMemory, Text};
 use std::alloc::{AllocError, Global};
@@ -32,8 +32,8 @@ fn parts_at_blanks<'a>(alloc: Global, text: &'a [u8]) -> Result<Vec<&'a [u8]>, A
 }
 
 // The text with a blank on both sides of each sign.
-fn parted(alloc: Global, text: &[u8]) -> Result<Vec<u8>, OutOfMemory>
-    ensures { IfOk result (λ parts. parts.items ≡ flat_map parted text.now) }
+fn part_signs(alloc: Global, text: &[u8]) -> Result<Vec<u8>, OutOfMemory>
+    ensures { IfOk result (λ parts. parts.items ≡ flat_map part_signs text.now) }
 {
     let mut parts = Vec::new(alloc);
     for byte in text {
@@ -52,7 +52,7 @@ fn parted(alloc: Global, text: &[u8]) -> Result<Vec<u8>, OutOfMemory>
 pub fn words_in(alloc: Global, text: &[u8]) -> Result<Vec<Text>, OutOfMemory>
     ensures { IfOk result (λ words. words.items ≡ words_in text.now) }
 {
-    let text = parted(alloc, text)?;
+    let text = part_signs(alloc, text)?;
     let parts = parts_at_blanks(alloc, text.as_slice())?;
     let mut words = Vec::new(alloc);
     for part in &parts {

@@ -1,8 +1,17 @@
 //! From the program's arguments to a run of the engine.
-ghost use Rattle.std.specs.Prelude.{◌≡◌, ◌≢◌, Err, IfOk, vec_len};
-ghost use Rattle.ooc_engine.specs.Ends.{HasWriteCause};
+ghost use Rattle.std.specs.Prelude.{◌≡◌, ◌≢◌, ◌⊎◌, Err, IfOk, IfSome, List, ℕ, drop, vec_len};
+ghost use Rattle.std.specs.Vec.Iter.{into_iter_items};
+ghost use Rattle.std.specs.Io.KnownBytes.{Appends};
+ghost use Rattle.ooc_io.specs.Counts.{Rose, Stayed};
+ghost use Rattle.ooc_engine.specs.Answers.{EndsOrCut};
+ghost use Rattle.ooc_engine.specs.Catalog.{no_tables};
+ghost use Rattle.ooc_engine.specs.Ends.{EndsAs, EndsBy};
+ghost use Rattle.ooc_engine.specs.LastLine.{EndsInLine};
+ghost use Rattle.ooc_engine.specs.Says.{Says, Ends};
+ghost use Rattle.ooc_engine.specs.Settings.{settings, words_of};
+ghost use Rattle.oocsql.specs.Arguments.{words_behind};
 
-use ooc_engine::{Status, UsageFault, end, run_script};
+use ooc_engine::{Status, end, run_script};
 use ooc_io::{Files, MemLane, NoGate, OutOfMemory, Sink};
 use std::alloc::Global;
 use std::env::Args;
@@ -24,28 +33,41 @@ fn lanes(alloc: Global) -> Result<Vec<MemLane>, OutOfMemory>
     Ok(lanes)
 }
 
-// Why the arguments can't be had: memory ran out, or one of them isn't UTF-8 and so is a faulty word.
-fn refused(error: &io::Error) -> Status
-    ensures { result ≢ Status.WriteFault }
+// The arguments behind the first.
+fn others(alloc: Global, args: Args) -> Result<Vec<String>, OutOfMemory>
+    ensures { IfOk result (λ words. words.items ≡ drop 1 (into_iter_items args)) }
 {
-    if error.kind() == io::ErrorKind::OutOfMemory {
-        Status::OutOfMemory
-    } else {
-        Status::Usage(UsageFault::Words)
+    Ok(args.skip(1).collect(alloc)?)
+}
+
+// The words behind the program's name. An argument that isn't UTF-8 is a faulty word, and leaves no words, which are
+// faulty too.
+fn words_in(alloc: Global, args: io::Result<Args>) -> Result<Vec<String>, OutOfMemory>
+    ensures { IfOk result (λ words. words_of words.items ≡ words_behind args) }
+{
+    match args {
+        Ok(args) => others(alloc, args),
+        Err(error) => {
+            if error.kind() == io::ErrorKind::OutOfMemory {
+                Err(OutOfMemory)
+            } else {
+                Ok(Vec::new(alloc))
+            }
+        }
     }
 }
 
-// The words behind the program's name.
-fn words_in(alloc: Global, args: io::Result<Args>) -> Result<Vec<String>, Status>
-    ensures { result ≢ Err Status.WriteFault }
+// The words and the lanes.
+fn prepare(
+    alloc: Global,
+    args: io::Result<Args>,
+) -> Result<(Vec<String>, Vec<MemLane>), OutOfMemory>
+    ensures words { IfOk result (λ run. words_of run.0.items ≡ words_behind args) }
+    ensures lanes { IfOk result (λ run. vec_len run.1 ≡ 64) }
 {
-    match args {
-        Ok(args) => match args.skip(1).collect(alloc) {
-            Ok(words) => Ok(words),
-            Err(_) => Err(Status::OutOfMemory),
-        },
-        Err(error) => Err(refused(&error)),
-    }
+    let words = words_in(alloc, args)?;
+    let lanes = lanes(alloc)?;
+    Ok((words, lanes))
 }
 
 /// Runs the script that the arguments name. The first argument is the program's name.
@@ -56,16 +78,33 @@ pub fn run<R: Threads + Wait + Sync, F: Files, K: Sink>(
     files: &mut F,
     out: &mut K,
 ) -> Status
-    ensures cause { HasWriteCause (K.faults out.old) (K.faults out.new) result }
+    // What is written is what the script says, statement by statement.
+    ensures says { IfSome (F.holds files.old) (λ held. (more : List ℕ)
+        × Appends (K.written out.old) (K.written out.new) more
+        × Says no_tables (words_behind args) held more result) }
+    // Usage is answered for wrong words alone, and wrong words are answered so; what is then written is their line.
+    ensures usage { (fault : _) → result ≡ Status.Usage fault → settings (words_behind args) ≡ Err fault }
+    ensures usage_told { (fault : _) → settings (words_behind args) ≡ Err fault → EndsAs (Status.Usage fault) result }
+    ensures usage_line { (fault : _) → settings (words_behind args) ≡ Err fault
+        → EndsBy (K.written out.old) (K.written out.new) (Status.Usage fault) result }
+    // The script ends as the definition has it, unless a fault from outside or want of memory cuts it.
+    ensures ends { IfSome (F.holds files.old) (λ held. EndsOrCut no_tables (words_behind args) held result) }
+    // Each fault has its cause.
+    ensures read_fault { result ≡ Status.ReadFault → Rose (F.faults files.old) (F.faults files.new) }
+    ensures write_fault { result ≡ Status.WriteFault → Rose (K.faults out.old) (K.faults out.new) }
+    ensures write_told { result ≢ Status.WriteFault → K.faults out.new ≡ K.faults out.old }
+    // Whatever the files tell, the line of the status stands last, unless the output failed.
+    ensures last { EndsInLine (K.written out.old) (K.written out.new) result }
+    // Where no fault came, the status is the script's, or memory ran out.
+    ensures complete { Stayed (F.faults files.old) (F.faults files.new) → Stayed (K.faults out.old) (K.faults out.new)
+        → IfSome (F.holds files.old) (λ held. Ends no_tables (words_behind args) held result
+        ⊎ (result ≡ Status.OutOfMemory)) }
 {
-    let words = match words_in(alloc, args) {
-        Ok(words) => words,
-        Err(status) => return end(alloc, out, status),
-    };
-    let mut lanes = match lanes(alloc) {
-        Ok(lanes) => lanes,
-        Err(_) => return end(alloc, out, Status::OutOfMemory),
-    };
-    let words = words.as_slice();
-    run_script(rt, alloc, words, files, out, lanes.as_mut_slice(), &NoGate)
+    match prepare(alloc, args) {
+        Ok((words, mut lanes)) => {
+            let words = words.as_slice();
+            run_script(rt, alloc, words, files, out, lanes.as_mut_slice(), &NoGate)
+        }
+        Err(_) => end(alloc, out, Status::OutOfMemory),
+    }
 }

@@ -15,10 +15,8 @@ use std::env;
 use std::process::ExitCode;
 
 fn main(rt: HostRuntime) -> ExitCode {
-    let mut files = RealFiles::new_files(&rt);
-    let mut out = RealSink::new_sink(&rt);
-    let status = run(&rt, rt.alloc(), env::args(&rt), &mut files, &mut out);
-    ExitCode::from(status.code())
+    let (mut files, mut out) = (RealFiles::new_files(&rt), RealSink::new_sink(&rt));
+    ExitCode::from(run(&rt, rt.alloc(), env::args(&rt), &mut files, &mut out).code())
 }
 
 #[cfg(test)]

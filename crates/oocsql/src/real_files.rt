@@ -1,13 +1,14 @@
 //! The real files.
-ghost use Rattle.std.specs.Prelude.{◌≡◌, ◌≢◌, ◌≤◌, ◌<◌, ◌↔◌, None, IfOk, IsTrue, is_some, length};
+ghost use Rattle.std.specs.Prelude.{◌≡◌, ◌≢◌, ◌≤◌, ◌<◌, ◌↔◌, None, IfOk, IsTrue, true, false, is_ok, is_err, length};
 ghost use Rattle.std.specs.IoError.{error_kind};
 ghost use Rattle.std.specs.Io.KnownBytes.{ReadConsumes};
-ghost use Rattle.ooc_io.specs.Counts.{HasCause};
-ghost use Rattle.ooc_io.specs.Opens.{Opens, HasOpenCause};
+ghost use Rattle.ooc_io.specs.Counts.{HasCause, faults_after};
+ghost use Rattle.ooc_io.specs.Opens.{Opens, HasOpenCause, is_failure};
 
 use ooc_io::{Files, FilesFailed, OpenFault};
 use std::fs;
 use std::io::{Error, ErrorKind, Read};
+use std::marker::Model;
 
 /// The files of the system, by paths that are relative to the current folder. They tell no content.
 #[derive(Drop)]
@@ -17,11 +18,19 @@ pub struct RealFiles<'a, R: std::rt::Files> {
     faults: u64,
 }
 
+impl<'a, R: std::rt::Files> Model for RealFiles<'a, R> {
+    ghost use Rattle.std.specs.Prelude.{is_some};
+    ghost use Rattle.oocsql.specs.Real.{RealState};
+
+    ghost Value = { RealState };
+
+    ghost view = { λ f. record { opened = is_some f.file; faults = f.faults } };
+}
+
 impl<'a, R: std::rt::Files> RealFiles<'a, R> {
     /// Files of which none is open.
     pub fn new_files(rt: &'a R) -> RealFiles<'a, R>
-        ensures closed { result.file ≡ None }
-        ensures faults { result.faults ≡ 0 }
+        ensures { result ≡ record { opened = false; faults = 0 } }
     {
         RealFiles {
             rt,
@@ -61,13 +70,18 @@ fn read_some<F: Read>(file: &mut F, piece: &mut [u8]) -> Result<usize, Error>
 impl<'a, R: std::rt::Files> Files for RealFiles<'a, R> {
     ghost holds = { λ f. None };
 
-    ghost is_open = { λ f. is_some f.file };
+    ghost is_open = { λ f. f.opened };
 
     ghost left = { λ f. None };
 
     ghost faults = { λ f. f.faults };
 
-    fn open(&mut self, name: &str) -> Result<(), OpenFault> {
+    // A failure raises the count, and nothing else does.
+    fn open(&mut self, name: &str) -> Result<(), OpenFault>
+        ensures opened { self.new.opened ≡ is_ok result }
+        ensures cause { HasOpenCause self.old.faults self.new.faults result }
+        ensures faults { self.new.faults ≡ faults_after (is_failure result) self.old.faults }
+    {
         self.file = None;
         match fs::open(self.rt, name) {
             Ok(file) => {
@@ -84,7 +98,15 @@ impl<'a, R: std::rt::Files> Files for RealFiles<'a, R> {
         }
     }
 
-    fn read(&mut self, piece: &mut [u8]) -> Result<usize, FilesFailed> {
+    fn read(&mut self, piece: &mut [u8]) -> Result<usize, FilesFailed>
+        requires opened { self.old.opened ≡ true }
+        requires room { 0 < length piece.old }
+        ensures opened { self.new.opened ≡ true }
+        ensures bound { IfOk result (λ n. n ≤ length piece.new) }
+        ensures bytes { ReadConsumes None None result piece.new }
+        ensures cause { HasCause self.old.faults self.new.faults result }
+        ensures faults { self.new.faults ≡ faults_after (is_err result) self.old.faults }
+    {
         if let Some(file) = &mut self.file {
             if let Ok(count) = read_some(file, piece) {
                 return Ok(count);

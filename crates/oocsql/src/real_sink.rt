@@ -1,10 +1,11 @@
 //! The standard output.
-ghost use Rattle.std.specs.Prelude.{◌≡◌, ◌≤◌, ◌<◌, ℕ, None, IfOk, length};
+ghost use Rattle.std.specs.Prelude.{◌≡◌, ◌≤◌, ◌<◌, ℕ, None, IfOk, true, is_ok, is_err, length};
 ghost use Rattle.std.specs.Io.KnownBytes.{WriteAppends, Keeps};
-ghost use Rattle.ooc_io.specs.Counts.{HasExactCause};
+ghost use Rattle.ooc_io.specs.Counts.{HasExactCause, faults_after};
 
 use ooc_io::{Sink, WriteFailed};
 use std::io::{Error, ErrorKind};
+use std::marker::Model;
 
 /// The standard output. It tells no content.
 #[derive(Drop)]
@@ -13,16 +14,25 @@ pub struct RealSink<'a, R> {
     faults: u64,
 }
 
+// Contracts see how often a call failed.
+impl<'a, R> Model for RealSink<'a, R> {
+    ghost use Rattle.std.specs.Prelude.{ℕ};
+
+    ghost Value = { ℕ };
+
+    ghost view = { λ s. s.faults };
+}
+
 impl<'a, R: Print> RealSink<'a, R> {
     pub fn new_sink(rt: &'a R) -> RealSink<'a, R>
-        ensures { result.faults ≡ 0 }
+        ensures { result ≡ 0 }
     {
         RealSink { rt, faults: 0 }
     }
 
     /// How often a call failed.
     pub fn fault_count(&self) -> u64
-        ensures { result ≡ self.now.faults }
+        ensures { result ≡ self.now }
     {
         self.faults
     }
@@ -44,10 +54,17 @@ fn write_some<R: Print>(rt: &R, piece: &[u8]) -> Result<usize, Error>
 impl<'a, R: Print> Sink for RealSink<'a, R> {
     ghost written = { λ s. None };
 
-    ghost faults = { λ s. s.faults };
+    ghost faults = { λ s. s };
 
     // A call that takes no byte fails.
-    fn write(&mut self, piece: &[u8]) -> Result<usize, WriteFailed> {
+    fn write(&mut self, piece: &[u8]) -> Result<usize, WriteFailed>
+        requires { 0 < length piece.now }
+        ensures some { IfOk result (λ n. 0 < n) }
+        ensures bound { IfOk result (λ n. n ≤ length piece.now) }
+        ensures bytes { WriteAppends None None result piece.now }
+        ensures cause { HasExactCause self.old self.new result }
+        ensures faults { self.new ≡ faults_after (is_err result) self.old }
+    {
         match write_some(self.rt, piece) {
             Ok(count) if count > 0 => Ok(count),
             _ => {
@@ -58,7 +75,11 @@ impl<'a, R: Print> Sink for RealSink<'a, R> {
     }
 
     // Nothing is held back: each call of the system takes what it takes.
-    fn flush(&mut self) -> Result<(), WriteFailed> {
+    fn flush(&mut self) -> Result<(), WriteFailed>
+        ensures cause { HasExactCause self.old self.new result }
+        ensures same { self.new ≡ self.old }
+        ensures ok { is_ok result ≡ true }
+    {
         Ok(())
     }
 }

@@ -1,9 +1,57 @@
-//! The real forms, once each.
+//! The command over memory forms, and the real forms once each.
 
 use super::*;
-use ooc_io::{Files, OpenFault, Sink};
-use std::fs;
+use ooc_io::{Files, MemFiles, MemSink, OpenFault, Sink};
+use std::alloc::Global;
+use std::env::Args;
+use std::process::Abort;
+use std::sync::Wait;
 use std::test::Fail;
+use std::thread::Threads;
+use std::{fs, io};
+
+const USAGE: &str = "usage: oocsql [--threads N] [--limit BYTES] [--page BYTES] SCRIPT\n";
+
+/// The arguments behind the program's name, the exit status, and what is written where no file is there.
+static COMMANDS: [(&[&str], u8, &str); 4] = [
+    (&[], 2, USAGE),
+    (&["s.sql"], 1, "error: script: no file\n"),
+    (&["s.sql", "s.sql"], 2, USAGE),
+    (&["--help"], 2, USAGE),
+];
+
+/// Runs a command without files, and compares its exit status and what is written.
+fn expect<R: Threads + Wait + Sync + Abort>(
+    rt: &R,
+    alloc: Global,
+    args: io::Result<Args>,
+    code: u8,
+    out: &str,
+) -> Result<(), Fail> {
+    let mut files = MemFiles::new_files(Vec::new(alloc), Vec::new(alloc));
+    let mut sink = MemSink::new_sink(alloc, Vec::new(alloc), 256)?;
+    let status = run(rt, alloc, args, &mut files, &mut sink);
+    assert_eq!(rt; sink.bytes(), out.as_bytes());
+    assert_eq!(rt; status.code(), code);
+    Ok(())
+}
+
+#[test]
+fn a_command_without_one_script_is_faulty(rt: HostRuntime) -> Result<(), Fail> {
+    let alloc = rt.alloc();
+    for (words, code, out) in &COMMANDS {
+        let mut args = vec![in alloc; String::from_str(alloc, "oocsql")?]?;
+        for word in *words {
+            args.push(String::from_str(alloc, word)?)?;
+        }
+        expect(&rt, alloc, Ok(args.into_iter()), *code, out)?;
+    }
+    // An argument that isn't UTF-8, and want of memory.
+    let odd = io::Error::from(io::ErrorKind::InvalidData);
+    expect(&rt, alloc, Err(odd), 2, USAGE)?;
+    let memory = io::Error::from(io::ErrorKind::OutOfMemory);
+    expect(&rt, alloc, Err(memory), 7, "error: out of memory\n")
+}
 
 #[test]
 fn a_real_file_is_read_to_its_end(rt: HostRuntime) -> Result<(), Fail> {

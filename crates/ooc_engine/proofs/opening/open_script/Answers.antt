@@ -13,6 +13,6 @@ returns-in-Ok-clause-opened g c =
 
 pub returns-in-Err-NotBuilt-clause-opened : goal.returns-in-Err-NotBuilt-clause-opened
 returns-in-Err-NotBuilt-clause-opened g c =
-    rw (c.script_refused.ensures) (IfSome_then (g.F.Files.holds c.args.files.now) c.in_ok-text.ensures.read (λ held read.
+    rw (c.script_refusal.ensures) (IfSome_then (g.F.Files.holds c.args.files.now) c.in_ok-text.ensures.read (λ held read.
     unparsed_opened (words_of c.args.words.now) held c.in_ok-settings.settings c.in_ok-settings.ensures c.in_ok-text.text.items
     (ap (get held) (sym c.as_str.ensures) ∙ read.0) c.as_slice.result.now c.in-Err-NotBuilt.field-0 c.as_slice.ensures.value c.in-Err-NotBuilt.field-0-is c.in-Err-NotBuilt.ensures.parsed))

@@ -2,6 +2,9 @@ use Rattle.std.proofs.Common.{drop, ◌∙◌, arith}
 use Rattle.std.proofs.Math.ListN.{drop_of_length-le}
 use Rattle.ooc_engine.specs.Meaning.{outcome}
 use Rattle.ooc_engine.proofs.SoFar.{told_ran, told_lost, told_stopped, told_done, drop_next}
+use Rattle.std.proofs.Common.{inl, refl, ◌++◌}
+use Rattle.ooc_engine.proofs.Known.{Appends-then}
+use Rattle.ooc_engine.proofs.LastLineLemmas.{last_line}
 use Rattle.ooc_engine.proofs.statements.run_statements.Goals as goal
 
 pub returns-in-Err-clause-says : goal.returns-in-Err-clause-says
@@ -28,6 +31,7 @@ loop-statement-preserved g c =
       holds = c.in-Ok.ensures.holds ∙ l.invariant.holds;
       later = omega (arith, c.in-Ok.ensures.later, l.invariant.later);
       faults = c.in-Ok-write_all.ensures.cause ∙ l.invariant.faults;
+      grown = (l.invariant.grown.0 ++ c.in-Ok.block.items, Appends-then _ _ _ l.invariant.grown.0 c.in-Ok.block.items l.invariant.grown.1 (rw (c.as_slice.ensures.value) at c.in-Ok-write_all.ensures.bytes));
       so_far = told_ran _ (outcome c.args.settings.now) _ all _ l.number _ c.run_statement.new.catalog _ _ _ _ _ is l.invariant.so_far c.in-Ok.block.items (rw (l.invariant.holds) at c.in-Ok.ensures.step) (rw (c.as_slice.ensures.value) at c.in-Ok-write_all.ensures.bytes);
     }
 
@@ -36,3 +40,12 @@ returns-clause-says g c =
     let l = c.loop-statement in
     let all = c.args.statements.now in
     told_done _ (outcome c.args.settings.now) _ all _ l.number _ (drop l.statement-index all) _ _ c.end-2.result (drop_of_length-le all c.loop-statement-test.false) l.invariant.so_far c.end-2.ensures.line
+
+pub returns-in-Err-clause-last : goal.returns-in-Err-clause-last
+returns-in-Err-clause-last g c = last_line _ _ _ c.in-Err.status c.end.result c.loop-statement.invariant.grown c.end.ensures.line
+
+pub returns-in-Err-write_all-clause-last : goal.returns-in-Err-write_all-clause-last
+returns-in-Err-write_all-clause-last g c = inl refl
+
+pub returns-clause-last : goal.returns-clause-last
+returns-clause-last g c = last_line _ _ _ _ c.end-2.result c.loop-statement.invariant.grown c.end-2.ensures.line
