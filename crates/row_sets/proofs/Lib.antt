@@ -13,3 +13,4 @@ pub mod SealedRows
 pub mod Fresh
 pub mod Dropped
 pub mod Opened
+pub mod PageAt

@@ -8,4 +8,5 @@ pub mod Sets
 pub mod Writers
 pub mod Given
 pub mod Closing
+pub mod Cursors
 pub mod Adding

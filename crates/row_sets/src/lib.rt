@@ -1,9 +1,10 @@
-//! Sets of rows on pages: writers, and the end of a set.
+//! Sets of rows on pages: writers of rows, cursors over the row pages of a set, and the end of a set.
 #![tactic(auto)]
 
 mod adding;
 mod cells;
 mod closing;
+mod cursor;
 mod kinds;
 mod limits;
 mod opening;
@@ -15,6 +16,7 @@ mod writer;
 
 pub use adding::try_append;
 pub use closing::{abandon, finish};
+pub use cursor::{Cursor, pin_page};
 pub use kinds::{Kinds, layout_of};
 pub use limits::{MOST_LONG, MOST_ROWS};
 pub use opening::{append, get_room};
