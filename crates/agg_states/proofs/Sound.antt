@@ -248,7 +248,11 @@ join_fits Min of m n v w p q few = tt
 join_fits Max of m n v w p q few = tt
 
 pub count_restored : (rows : ℕ) (kept : Value) → IsCount rows (restored_count rows kept)
-count_restored rows (Number d s) = let near = between_within 0 rows d in (near.0, near.1, refl)
+count_restored rows (Number d s) = go (eqb s 0)
+  where
+    go : (b : Bool) → IsCount rows (cond b (Number (between (pos 0) (pos rows) d) 0) (Number (pos 0) 0))
+    go true = let near = between_within 0 rows d in (near.0, near.1, refl)
+    go false = (omega (arith, ints), omega (arith, ints), refl)
 count_restored rows Null = (omega (arith, ints), omega (arith, ints), refl)
 count_restored rows (Truth x) = (omega (arith, ints), omega (arith, ints), refl)
 count_restored rows (Day x) = (omega (arith, ints), omega (arith, ints), refl)

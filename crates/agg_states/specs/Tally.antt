@@ -84,9 +84,9 @@ merged t u = record { kind = t.kind; of = t.of; rows = t.rows + u.rows; cell = b
 abbrev pub restored_rows : ℤ → ℕ
 restored_rows rows = unsigned_abs (between (pos 0) (pos row_limit) rows)
 
--- a cell of counted rows, and outside 0 to the rows the nearest end; what is no number counts nothing
+-- a cell of counted rows, and outside 0 to the rows the nearest end; what isn't a number without decimals counts nothing
 abbrev pub restored_count : ℕ → Value → Value
-restored_count rows (Number digits scale) = Number (between (pos 0) (pos rows) digits) 0
+restored_count rows (Number digits scale) = if scale == 0 then Number (between (pos 0) (pos rows) digits) 0 else Number (pos 0) 0
 restored_count rows Null = Number (pos 0) 0
 restored_count rows (Truth truth) = Number (pos 0) 0
 restored_count rows (Day day) = Number (pos 0) 0

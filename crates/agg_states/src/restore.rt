@@ -30,13 +30,13 @@ pub fn restored_rows(rows: i128) -> u64
     between(0, ROW_LIMIT as i128, rows) as u64
 }
 
-// A count of some of the rows.
+// A count of some of the rows. It is never NULL, so what has another form counts nothing.
 fn restored_count(rows: u64, kept: &Value) -> Value
     ensures { result ≡ spec.restored_count rows kept.now }
 {
     let digits = match kept {
-        Value::Number { digits, .. } => between(0, rows as i128, *digits),
-        Value::Null | Value::Truth(_) | Value::Day(_) | Value::Text(_) => 0,
+        Value::Number { digits, scale: 0 } => between(0, rows as i128, *digits),
+        _ => 0,
     };
     Value::Number { digits, scale: 0 }
 }
