@@ -68,7 +68,15 @@ fn sums_pass_64_bits(rt: HostRuntime) -> Result<(), Fail> {
 fn kept_aggregates_come_back_within_their_bounds(rt: HostRuntime) -> Result<(), Fail> {
     let count = AggState::restore(AggKind::Count, SqlType::Integer, 2, number(7));
     assert!(rt; count.kept() == Ok((2, number(2))));
-    let tenths = AggState::restore(AggKind::Count, SqlType::Integer, 2, Value::Number { digits: 1, scale: 1 });
+    let tenths = AggState::restore(
+        AggKind::Count,
+        SqlType::Integer,
+        2,
+        Value::Number {
+            digits: 1,
+            scale: 1,
+        },
+    );
     assert!(rt; tenths.kept() == Ok((2, number(0))));
     let rows = AggState::restore(AggKind::Count, SqlType::Integer, -1, number(-1));
     assert!(rt; rows.kept() == Ok((0, number(0))));
