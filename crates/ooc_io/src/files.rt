@@ -28,7 +28,8 @@ pub trait Files {
         ensures told { Opens (holds self.old) name.now result (left self.new) }
         ensures cause { HasOpenCause (faults self.old) (faults self.new) result };
 
-    /// Reads the next bytes into the front of `piece`, and answers how many; 0 at the end of the file.
+    /// Reads the next bytes into the front of `piece`, and answers how many; 0 at the end of the file. After a failure the
+    /// piece's bytes are unspecified.
     fn read(&mut self, piece: &mut [u8]) -> Result<usize, FilesFailed>
         requires opened { is_open self.old ≡ true }
         requires room { 0 < length piece.old }

@@ -133,7 +133,7 @@ impl Files for MemFiles {
         }
     }
 
-    // The listed calls fail, and no others. A read gives all that is left and fits.
+    // The listed calls fail, and no others. A read gives all that is left and fits, and a failed one leaves the piece.
     fn read(&mut self, piece: &mut [u8]) -> Result<usize, FilesFailed>
         requires opened { self.old.opened ≡ true }
         requires room { 0 < length piece.old }
@@ -148,6 +148,7 @@ impl Files for MemFiles {
         ensures counted { self.new.calls ≡ called self.old.calls }
         ensures most { IfOk result (λ n. n ≡ min (length self.old.left) (length piece.old)) }
         ensures refused { OnErr result (self.new.left ≡ self.old.left) }
+        ensures untouched { OnErr result (piece.new ≡ piece.old) }
     {
         if self.calls.fails() {
             self.faults = self.faults.saturating_add(1);

@@ -1,7 +1,6 @@
 pub mod PartMoves
 pub mod Places
 pub mod SlotSteps
-pub mod LongTexts
 pub mod Kept
 pub mod Causes
 pub mod Takes

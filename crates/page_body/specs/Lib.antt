@@ -11,4 +11,3 @@ pub mod Slots
 pub mod ContentLength
 pub mod SlotLaws
 pub mod MemView
-pub mod Clients

@@ -7,10 +7,7 @@ ghost use Rattle.row_image.specs.Flat.{flat};
 ghost use Rattle.row_image.specs.Rules.{IsAccepted};
 ghost use Rattle.page_body.specs.Shows.{AreBases, IsBased};
 
-use row_image::{Layout, part_count, part_of, rebase};
-
-// The heap number of a part that has no heap page.
-const NO_HEAP: u32 = 4294967295;
+use row_image::{Layout, NO_HEAP, part_count, part_of, rebase};
 
 /// Moves the texts of each part that has a heap page and another base.
 pub fn move_parts(layout: &Layout, image: &mut [u8], bases: &[u64])

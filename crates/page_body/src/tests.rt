@@ -6,17 +6,13 @@ ghost use Rattle.row_image.specs.Rules.{IsAccepted};
 ghost use Rattle.row_image.specs.declared.image.ImageKind.TheVariants.{Rows, Heap};
 ghost use Rattle.page_body.specs.Stands.{StandsFor};
 ghost use Rattle.page_body.specs.Keeps.{Kept};
-ghost use Rattle.page_body.specs.Refusals.{CallFails};
-ghost use Rattle.page_body.specs.Clients.{IsPlaced, PinsOwned, IsTextOf};
 ghost use Rattle.page_body.specs.MemView.{mem_view};
 
-use super::clients::{RowAndHeap, long_text, pin_rows, read_back, release, seal_copy, two_pages};
+use super::clients::{read_back, seal_copy, two_pages};
 use super::*;
 use evict_ring::Frame;
 use ooc_io::{LaneFault, MemLane, Silent, SpillFailed, SpillLane, Ticket};
-use row_image::{
-    CellKind, Damage, DamageField, ImageKind, Layout, check_image, part_count, part_of,
-};
+use row_image::{CellKind, Damage, DamageField, ImageKind, Layout, check_image};
 use std::alloc::Global;
 use std::test::Fail;
 
@@ -61,66 +57,37 @@ fn one_text() -> Layout
     Layout::new_layout(&[CellKind::Text])
 }
 
-// Copies the long text of a cell, if it stands in the row page's first part and is as long as `into`.
-fn copy_pinned<P: Pages>(
-    pages: &P,
-    pins: &RowAndHeap<P::Pin>,
-    layout: &Layout,
-    row: u32,
-    column: u32,
-    into: &mut [u8],
-) -> bool
-    requires own { PinsOwned (P.view pages.now) pins.now.rows pins.now.heap }
-    requires kind { P.terms.kind (P.terms.under pins.now.rows) ≡ Rows layout.now }
-    requires heap_kind { P.terms.kind (P.terms.under pins.now.heap) ≡ Heap }
-    requires placed { IsPlaced P.terms (P.view pages.now).page_bytes pins.now.rows pins.now.heap }
-    requires column { column < length layout.now }
-    ensures { IsTrue P.terms.told → IsTrue result → IsTextOf P.terms layout.now (P.terms.under pins.now.rows) (P.terms.under pins.now.heap) row column into.new }
-{
-    let image = pages.bytes(&pins.rows);
-    if part_count(image) == 0 || row >= part_of(image, 0).rows {
-        return false;
-    }
-    match long_text(pages, pins, layout, row, column) {
-        Some(text) => {
-            if text.len() == into.len() {
-                into.copy_from_slice(text);
-                true
-            } else {
-                false
-            }
-        }
-        None => false,
-    }
-}
-
-// Copies the long text of a cell from its heap page, which the caller says is that of the row page's first part. It
-// answers false where the row isn't in that part, or the cell has no long text of this length.
-fn copy_text<P: Pages>(
+// Copies the bytes of a row page whose first part's texts were moved to where its heap page lies.
+fn read_moved<P: Pages>(
     pages: &mut P,
     rows: &P::Page,
     heap: &P::Page,
     layout: &Layout,
-    row: u32,
-    column: u32,
     into: &mut [u8],
-) -> Result<bool, PoolFault>
+) -> Result<(), PoolFault>
     requires rows { (P.view pages.old).live rows.now }
     requires heap { (P.view pages.old).live heap.now }
     requires kind { P.terms.kind rows.now ≡ Rows layout.now }
     requires heap_kind { P.terms.kind heap.now ≡ Heap }
-    requires ends { IsTrue P.terms.ends_lives }
     requires alone { IsTrue P.terms.ends_lives → (P.view pages.old).pins (P.terms.id rows.now) ≡ 0 }
     requires room { (P.view pages.old).held + 2 ≤ (P.view pages.old).grant }
-    requires column { column < length layout.now }
-    ensures text { IsTrue P.terms.told → IfOk result (λ found. IsTrue found → IsTextOf P.terms layout.now rows.now heap.now row column into.new) }
-    ensures cause { IfErr result (CallFails P.terms.told (P.view pages.old).faults (P.view pages.new).faults) }
+    requires long { length into.old ≡ (P.view pages.old).page_bytes }
     ensures kept { Kept (P.view pages.old) (P.view pages.new) }
 {
-    let pins = pin_rows(pages, rows, heap, layout)?;
-    let found = copy_pinned(pages, &pins, layout, row, column, into);
-    release(pages, pins);
-    Ok(found)
+    let heap_pin = pages.pin(heap)?;
+    let base = base_of(pages.frame(&heap_pin), pages.page_bytes());
+    match pages.pin_based(rows, layout, &[base, 0, 0, 0]) {
+        Ok(row_pin) => {
+            into.copy_from_slice(pages.bytes(&row_pin));
+            pages.unpin(row_pin);
+            pages.unpin(heap_pin);
+            Ok(())
+        }
+        Err(fault) => {
+            pages.unpin(heap_pin);
+            Err(fault)
+        }
+    }
 }
 
 fn small_pool(alloc: Global) -> MemPages
@@ -146,7 +113,7 @@ fn pages_are_sealed_and_read_back(rt: HostRuntime) -> Result<(), Fail> {
 }
 
 #[test]
-fn a_long_text_is_followed_to_its_heap_page(rt: HostRuntime) -> Result<(), Fail> {
+fn texts_are_moved_to_where_their_heap_page_lies(rt: HostRuntime) -> Result<(), Fail> {
     let mut pages = small_pool(rt.alloc());
     let layout = one_text();
     let heap = match seal_copy(&mut pages, ImageKind::Heap, &heap_image()) {
@@ -157,13 +124,12 @@ fn a_long_text_is_followed_to_its_heap_page(rt: HostRuntime) -> Result<(), Fail>
         Ok(Some(page)) => page,
         _ => return Err(Fail::from("the row page keeps the rules")),
     };
-    let mut text = [0; 13];
-    assert!(rt; copy_text(&mut pages, &rows, &heap, &layout, 0, 0, &mut text) == Ok(true));
-    assert!(rt; text.as_slice() == b"Kopenhagen ..".as_slice());
-    assert!(rt; copy_text(&mut pages, &rows, &heap, &layout, 1, 0, &mut text) == Ok(false));
-    let mut moved = [0; 4096];
-    assert!(rt; read_back(&mut pages, &rows, &mut moved) == Ok(()));
-    assert_eq!(rt; &moved[145..149], [64, 0, 0, 0].as_slice());
+    let mut image = [0; 4096];
+    assert!(rt; read_back(&mut pages, &rows, &mut image) == Ok(()));
+    assert!(rt; image.as_slice() == row_image().as_slice());
+    assert!(rt; read_moved(&mut pages, &rows, &heap, &layout, &mut image) == Ok(()));
+    // The heap page lies in the first frame, and its text behind 64 bytes of head.
+    assert_eq!(rt; &image[145..153], [64, 0, 0, 0, 0, 0, 0, 0].as_slice());
     assert_eq!(rt; pages.held(), 0);
     pages.retire(rows);
     pages.retire(heap);

@@ -14,10 +14,7 @@ use crate::event::{Change, Event};
 use crate::image::Image;
 use crate::state::{CorePage, CoreTurn, Parts};
 use page_body::PageBody;
-use row_image::{ImageKind, check_image, part_count, part_of};
-
-/// The place of the heap number in a part that has no heap page.
-const NO_HEAP: u32 = 4294967295;
+use row_image::{ImageKind, NO_HEAP, check_image, part_count, part_of};
 
 /// Whether the turn of a frame is at home.
 pub fn is_home(turns: &[CoreTurn], frame: u32) -> bool

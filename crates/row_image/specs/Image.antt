@@ -5,6 +5,7 @@ use Rattle.std.specs.Int.{w32, w64, w128, cast_signed, bit_at}
 use Rattle.row_image.specs.declared.layout.CellKind.{CellKind}
 use Rattle.row_image.specs.declared.layout.CellKind.TheVariants.{Bit, Four, Eight, Sixteen, Text}
 use Rattle.row_image.specs.declared.image.Part.{Part}
+use Rattle.row_image.specs.declared.limits.TheConstants.{NO_HEAP}
 use Rattle.row_image.specs.Bytes.{number_at}
 use Rattle.row_image.specs.Layout.{mask_bytes, offset_of, row_place}
 use Rattle.row_image.specs.Cells.{StoredCell, NullCell, NumberCell, ShortCell, LongCell}
@@ -82,7 +83,7 @@ parts_of image = map (λ part. part_at image part) (range_with_len 0 (part_count
 
 -- the heap number of a part without a heap page, and the part of a row that none covers
 abbrev pub no_heap : ℕ
-no_heap = 4294967295
+no_heap = NO_HEAP
 
 abbrev pub no_part : Part
 no_part = record { first = 0; rows = 0; heap = no_heap; base = 0 }

@@ -8,9 +8,9 @@ ghost use Rattle.row_image.specs.declared.limits.TheConstants.{MOST_PAGE};
 ghost use Rattle.row_image.specs.Rules.{rule_of, first_damage, text_limit, needs_parts, head_rules, rows_before, part_rules, first_set, address_rule, text_rules, kind_rules, cell_rules, row_rules, rules_of, IsAccepted, shape_of, Judges};
 
 use crate::bytes::{long_at, word_at};
-use crate::image::{Damage, DamageField, ImageKind, NO_HEAP, Part, Shape};
+use crate::image::{Damage, DamageField, ImageKind, Part, Shape};
 use crate::layout::{CellKind, Layout};
-use crate::limits::{HEAP_HEAD, MOST_TEXTS};
+use crate::limits::{HEAP_HEAD, MOST_TEXTS, NO_HEAP};
 use crate::parts::{part_at, part_count};
 use crate::read::{is_null, row_count};
 

@@ -1,9 +1,6 @@
 //! What the calls on images answer.
 use crate::layout::Layout;
 
-/// The place of the heap number in a part that has no heap page.
-pub const NO_HEAP: u32 = 4294967295;
-
 /// What an image is to be: rows of a layout, long texts, or any bytes.
 #[derive(Clone, Copy)]
 pub enum ImageKind {
@@ -54,7 +51,7 @@ pub enum RowPut {
 }
 
 /// Rows that stand one behind the other and whose long texts lie on one heap page: the first row,
-/// how many there are, the heap page's number (4294967295 where there is none) and its base.
+/// how many there are, the heap page's number (`NO_HEAP` where there is none) and its base.
 #[derive(Clone, Copy, Debug, PartialEq, Eq)]
 pub struct Part {
     pub first: u32,

@@ -25,7 +25,7 @@ pub use fits::{a_row_fits_a_page, texts_of_the_limit_fit_a_heap_page};
 pub use image::{Damage, DamageField, ImageKind, Part, RowPut, Shape};
 pub use layout::{CellKind, Layout};
 pub use limits::{
-    HEAP_HEAD, LEAST_PAGE, MOST_COLUMNS, MOST_PAGE, MOST_SHORT, MOST_TEXTS, ROW_HEAD,
+    HEAP_HEAD, LEAST_PAGE, MOST_COLUMNS, MOST_PAGE, MOST_SHORT, MOST_TEXTS, NO_HEAP, ROW_HEAD,
 };
 pub use moves::rebase;
 pub use parts::{part_count, part_of};

@@ -18,5 +18,8 @@ pub const MOST_COLUMNS: usize = 65;
 /// How many of a row's columns are of texts at most, where each text may be as long as the limit.
 pub const MOST_TEXTS: usize = 64;
 
+/// The heap number of a part that has no heap page.
+pub const NO_HEAP: u32 = 4294967295;
+
 /// The bytes of the longest text that lies in its cell.
 pub const MOST_SHORT: usize = 12;

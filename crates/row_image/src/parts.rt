@@ -12,7 +12,8 @@ ghost use Rattle.row_image.specs.declared.image.ImageKind.TheVariants.{Rows};
 
 use crate::bytes::{long_at, set_long, set_word, word_at};
 use crate::cell::CellIn;
-use crate::image::{NO_HEAP, Part};
+use crate::image::Part;
+use crate::limits::NO_HEAP;
 
 /// How many parts a row page has.
 pub fn part_count(image: &[u8]) -> u32

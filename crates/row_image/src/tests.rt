@@ -198,7 +198,7 @@ fn is_elsewhere(part: Part, number: u32, base: u64) -> bool
 // and does not have this heap page at another base.
 fn put_long(image: &mut [u8; 4096], number: u32, base: u64) -> Option<RowPut>
     requires page { length image.old ≡ 4096 }
-    requires number { number < 4294967295 }
+    requires number { number < NO_HEAP }
     requires aligned { base % 4096 ≡ 0 }
     requires low { base < 1000000 }
     ensures { length image.new ≡ 4096 }
@@ -230,7 +230,7 @@ fn move_heap(image: &mut [u8; 4096], part: u32, base: u64) -> bool
     let layout = texts();
     match check(&ImageKind::Rows(layout), image) {
         Ok(shape) => {
-            if part >= shape.parts || part_of(image, part).heap == 4294967295 {
+            if part >= shape.parts || part_of(image, part).heap == NO_HEAP {
                 return false;
             }
             rebase(&layout, image, part, base);

@@ -24,10 +24,23 @@ sealed_of s = s.sealed
 abbrev pub wrote_of : {L M : Type 0} {lane : Ghosts L M} {marks : mark.Ghosts M} → SoloTables L M lane marks → ℕ
 wrote_of s = s.wrote
 
+-- the tables and the lane that are lent to a pool, and the names of the references by which they are
+abbrev pub tables_under : {L M : Type 0} {lane : Ghosts L M} {marks : mark.Ghosts M} → Solo L M lane marks → SoloTables L M lane marks
+tables_under s = s.tables.now
+
+abbrev pub lane_under : {L M : Type 0} {lane : Ghosts L M} {marks : mark.Ghosts M} → Solo L M lane marks → L
+lane_under s = s.lane.now
+
+abbrev pub name_of_tables : {L M : Type 0} {lane : Ghosts L M} {marks : mark.Ghosts M} → Solo L M lane marks → ℕ
+name_of_tables s = s.tables.ghost_name
+
+abbrev pub name_of_lane : {L M : Type 0} {lane : Ghosts L M} {marks : mark.Ghosts M} → Solo L M lane marks → ℕ
+name_of_lane s = s.lane.ghost_name
+
 -- a pool over its lane
 abbrev pub pool_view : {L M : Type 0} {lane : Ghosts L M} {marks : mark.Ghosts M} → Solo L M lane marks → PoolView SoloPage SoloPin
-pool_view {L} {M} {lane} {marks} s = view_of marks.tells s.lane.ghost_name (lane.faults s.lane.now) (lane.writes s.lane.now) s.tables.now
+pool_view {L} {M} {lane} {marks} s = view_of marks.tells (name_of_lane s) (lane.faults (lane_under s)) (lane.writes (lane_under s)) (tables_under s)
 
 -- how many pages a pool sealed
 abbrev pub sealed_in : {L M : Type 0} {lane : Ghosts L M} {marks : mark.Ghosts M} → Solo L M lane marks → ℕ
-sealed_in s = sealed_of s.tables.now
+sealed_in s = sealed_of (tables_under s)

@@ -20,14 +20,14 @@ pub struct Solo<'a, L: SpillLane> {
 }
 
 impl<'a, L: SpillLane> Solo<'a, L> {
-    ghost use Rattle.solo_pool.specs.View.{pool_view, sealed_in};
+    ghost use Rattle.solo_pool.specs.View.{pool_view, sealed_in, tables_under, lane_under, name_of_tables, name_of_lane};
 
     /// The pool of tables and a lane.
     pub fn over(tables: &'a mut SoloTables<L>, lane: &'a mut L) -> Solo<'a, L>
-        ensures same_lane { result.lane.ghost_name ≡ lane.entry.ghost_name }
-        ensures lane { result.lane.now ≡ lane.old }
-        ensures same_tables { result.tables.ghost_name ≡ tables.entry.ghost_name }
-        ensures tables { result.tables.now ≡ tables.old }
+        ensures same_lane { name_of_lane result ≡ lane.entry.ghost_name }
+        ensures lane { lane_under result ≡ lane.old }
+        ensures same_tables { name_of_tables result ≡ tables.entry.ghost_name }
+        ensures tables { tables_under result ≡ tables.old }
     {
         Solo { tables, lane }
     }

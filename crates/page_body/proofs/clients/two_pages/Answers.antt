@@ -2,7 +2,7 @@ use Rattle.std.proofs.Common.{◌≡◌, sym, ◌∙◌, subst}
 use Rattle.std.specs.Prelude.{IfSome}
 use Rattle.row_image.specs.Flat.{flat}
 use Rattle.row_image.specs.declared.image.ImageKind.TheVariants.{Heap}
-use Rattle.page_body.proofs.LongTexts.{heap_flat}
+use Rattle.row_image.proofs.FlatLemmas.{heap_flat}
 use Rattle.page_body.proofs.clients.two_pages.Goals as goal
 
 pub returns-in-Ok-clause-read : goal.returns-in-Ok-clause-read

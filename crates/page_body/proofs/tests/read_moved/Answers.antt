@@ -1,6 +1,6 @@
 use Rattle.std.proofs.Common.{arith, sym}
 use Rattle.number_bags.proofs.Bags.{one_other}
-use Rattle.page_body.proofs.clients.pin_rows.Goals as goal
+use Rattle.page_body.proofs.tests.read_moved.Goals as goal
 
 pub pin_based-requires-clause-alone : goal.pin_based-requires-clause-alone
 pin_based-requires-clause-alone g c = λ ends.
@@ -10,12 +10,3 @@ pin_based-requires-clause-alone g c = λ ends.
     let count = c.in_ok-heap_pin.ensures.counted.pins (id c.args.rows.now) in
     let alone = c.requires.alone ends in
     omega (arith, none, count, alone)
-
-pub returns-in-Ok-clause-placed : goal.returns-in-Ok-clause-placed
-returns-in-Ok-clause-placed g c = λ some heap.
-    let base = c.in-Ok.ensures.based 0 some heap in
-    let is = c.base_of-base.ensures.is in
-    let frame = c.frame.ensures in
-    let page = c.page_bytes.ensures.is in
-    let steady = c.in_ok-heap_pin.ensures.steady.page_bytes in
-    cc (base, is, frame, page, steady)
