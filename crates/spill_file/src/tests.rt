@@ -21,7 +21,7 @@ fn page<R: Abort>(rt: &R, alloc: Global, byte: u8) -> Vec<u8> {
 fn spill<R: std::rt::Files + Abort>(
     rt: &R,
     alloc: Global,
-    lane: &mut FileLane<'_, R>,
+    lane: &mut FileLane<FileStore<'_, R>>,
     byte: u8,
 ) -> Ticket
 where
@@ -36,7 +36,7 @@ where
 fn holds<R: std::rt::Files + Abort>(
     rt: &R,
     alloc: Global,
-    lane: &mut FileLane<'_, R>,
+    lane: &mut FileLane<FileStore<'_, R>>,
     ticket: &Ticket,
     byte: u8,
 ) -> bool
@@ -50,8 +50,12 @@ where
 #[test]
 fn pages_are_read_back_in_any_order_and_freed_places_are_used_again(rt: HostRuntime) {
     let alloc = rt.alloc();
-    let mut lane = FileLane::new_lane(alloc, &rt, 7);
-    let mut other = FileLane::new_lane(alloc, &rt, 63);
+    let mut lane = FileLane::new_lane(alloc, FileStore::new_store(&rt, 7));
+    let mut other = FileLane::new_lane(alloc, FileStore::new_store(&rt, 63));
+    // A read makes no file.
+    assert!(rt; !holds(&rt, alloc, &mut lane, &Ticket::new_ticket(7, 0), 0));
+    assert_eq!(rt; lane.fault_count(), 1);
+    assert!(rt; fs::metadata(&rt, "oocsql-spill-07.tmp").is_err());
     send(&lane);
     let first = spill(&rt, alloc, &mut lane, b'a');
     let second = spill(&rt, alloc, &mut lane, b'b');
@@ -68,11 +72,11 @@ fn pages_are_read_back_in_any_order_and_freed_places_are_used_again(rt: HostRunt
     assert_eq!(rt; found.len(), 3 * 4096);
     assert!(rt; holds(&rt, alloc, &mut lane, &fourth, b'd'));
     assert_eq!(rt; lane.write_count(), 4);
-    assert_eq!(rt; lane.fault_count(), 0);
+    assert_eq!(rt; lane.fault_count(), 1);
     // No page was written there, nor is there a file of lane 62.
-    assert!(rt; !holds(&rt, alloc, &mut lane, &Ticket::new_ticket(7, 3 * 4096), 0));
+    assert!(rt; !holds(&rt, alloc, &mut lane, &Ticket::new_ticket(7, 3), 0));
     assert!(rt; !holds(&rt, alloc, &mut lane, &Ticket::new_ticket(62, 0), 0));
-    assert_eq!(rt; lane.fault_count(), 2);
+    assert_eq!(rt; lane.fault_count(), 3);
     // A place in the other lane's file is written again too.
     other.free(third);
     let fifth = spill(&rt, alloc, &mut other, b'e');
