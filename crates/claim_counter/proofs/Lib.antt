@@ -1,0 +1,4 @@
+pub mod ClaimKeeps
+pub mod HandKeeps
+pub mod Sums
+pub mod Taking

@@ -1,0 +1,6 @@
+use Rattle.std.proofs.Common.{rules}
+use Rattle.claim_counter.proofs.HandKeeps.{joins}
+use Rattle.claim_counter.proofs.hand.Hand.join_seat.Goals as goal
+
+pub join_seat-requires : goal.join_seat-requires
+join_seat-requires g c = (search rules, search rules, search rules, search rules, joins _ _ _ _ _ c.into.invariant.3)

@@ -1,0 +1,4 @@
+pub mod Desks
+pub mod Source
+pub mod Stage
+pub mod Work
