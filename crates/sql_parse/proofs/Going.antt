@@ -6,7 +6,7 @@ use Rattle.sql_grammar.specs.declared.fault.Fault.TheVariants.{Syntax}
 use Rattle.sql_grammar.specs.Form.{Sort, Value, Form, both, either, nest, marked}
 use Rattle.sql_grammar.specs.Reading.{Outcome, Parser, and_then, begins, opened, taken, Readers, read}
 use Rattle.sql_grammar.specs.Combinators.{◌<$>◌, ◌<*>◌}
-use Rattle.sql_parse.specs.Gives.{Gives, Makes, GoesOn}
+use Rattle.flat_rules.specs.Gives.{Gives, Makes, GoesOn}
 
 and_then_twice : {A B C : Type 0} (o : Outcome A) (f : A → Parser B) (g : B → Parser C) → and_then (and_then o f) g ≡ and_then o (λ a r. and_then (f a r) g)
 and_then_twice (Ok p) f g = refl

@@ -10,7 +10,7 @@ use Rattle.sql_grammar.specs.Reading.{Outcome, and_then, many_from, Readers, rea
 use Rattle.sql_grammar.specs.Classes.{sign_class}
 use Rattle.sql_grammar.specs.Combinators.{◌>>◌, sign, optional}
 use Rattle.sql_grammar.specs.Statements.{statement, present, script}
-use Rattle.sql_parse.proofs.Turning.{SoFar, started, stepped, failed, ended}
+use Rattle.flat_rules.proofs.Turning.{SoFar, started, stepped, failed, ended}
 
 append_nil : {A : Type 0} (u : List A) → u ++ [] ≡ u
 append_nil [] = refl

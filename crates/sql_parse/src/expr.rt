@@ -3,20 +3,20 @@ ghost use Rattle.std.specs.Prelude.{◌≤◌, ◌<◌, length, IsOk, Ok};
 ghost use Rattle.sql_grammar.specs.Form.{many, an_expr, a_neg, a_unary, an_argument};
 ghost use Rattle.sql_grammar.specs.Reading.{read, opened, and_then};
 ghost use Rattle.sql_grammar.specs.Nesting.{readers};
-ghost use Rattle.sql_parse.specs.Gives.{Gives};
+ghost use Rattle.flat_rules.specs.Gives.{Gives};
 ghost use Rattle.sql_grammar.specs.Expressions as form;
 
-use crate::cursor::{Cursor, QUERY, TEXT};
-use crate::leaves::{column, compare_sign, date_node, literal_node, sum_sign, term_sign};
-use crate::looks::{
+use crate::select::nested_select;
+use flat_rules::Cursor;
+use flat_rules::leaves::{column, compare_sign, date_node, literal_node, sum_sign, term_sign};
+use flat_rules::looks::{
     at_and, at_comparison, at_dated, at_group, at_in_test, at_like, at_named, at_null_test, at_or,
     at_range_test, at_sum_sign, at_term_sign,
 };
-use crate::nodes::{
+use flat_rules::nodes::{
     Bounds, bounded, call, chain, closed, compared, either, every, member, minus, negation, ranged,
 };
-use crate::predicates::{like, null_test, one_of};
-use crate::select::nested_select;
+use flat_rules::predicates::{like, null_test, one_of};
 use sql_grammar::Fault;
 use sql_grammar::tree::{Argument, Expr, Link, Operand, Span};
 use sql_lex::{Sign, Word};
@@ -146,7 +146,7 @@ fn dated(alloc: Global, cursor: &mut Cursor<'_>, depth: u8) -> Result<Boxed<Expr
     ensures shrinks { length cursor.new ≤ length cursor.old }
 {
     let name = cursor.date_name()?;
-    if cursor.sees(TEXT) {
+    if cursor.at_text() {
         return date_node(alloc, cursor, name, depth);
     }
     name_end(alloc, cursor, name, depth)
@@ -325,7 +325,7 @@ fn in_test(
     ensures shrinks { length cursor.new ≤ length cursor.old }
 {
     let place = cursor.word(Word::In)?;
-    if !cursor.sees(QUERY) {
+    if !cursor.at_query() {
         return one_of(alloc, cursor, left, negated, place, depth);
     }
     let query = nested_select(alloc, cursor, depth);

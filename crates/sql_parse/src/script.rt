@@ -7,14 +7,14 @@ ghost use Rattle.sql_grammar.specs.Reading.{read, begins};
 ghost use Rattle.sql_grammar.specs.Combinators.{optional};
 ghost use Rattle.sql_grammar.specs.Nesting.{readers};
 ghost use Rattle.sql_grammar.specs.Whole as whole;
-ghost use Rattle.sql_parse.specs.Gives.{Gives};
+ghost use Rattle.flat_rules.specs.Gives.{Gives};
 ghost use Rattle.sql_grammar.specs.Verdict.{IsScript, Refuses, SyntaxAt, TooDeepAt, IsRefusedWith, limit};
 ghost use Rattle.sql_grammar.specs.Statements as form;
 
-use crate::clauses::at_select;
-use crate::cursor::Cursor;
 use crate::select::select;
-use crate::statements::{at_copy, at_create, at_drop, copy, create, drop_table};
+use flat_rules::Cursor;
+use flat_rules::clauses::at_select;
+use flat_rules::statements::{at_copy, at_create, at_drop, copy, create, drop_table};
 use sql_grammar::tree::{Script, Statement};
 use sql_grammar::{Fault, ParseFault};
 use sql_lex::{Sign, Token, Tokens, Word};

@@ -4,18 +4,17 @@ ghost use Rattle.sql_grammar.specs.Form.{many, a_select};
 ghost use Rattle.sql_grammar.specs.Reading.{read, opened};
 ghost use Rattle.sql_grammar.specs.Combinators.{list};
 ghost use Rattle.sql_grammar.specs.Nesting.{readers};
-ghost use Rattle.sql_parse.specs.Gives.{Gives};
+ghost use Rattle.flat_rules.specs.Gives.{Gives};
 ghost use Rattle.sql_grammar.specs.Expressions as expressions;
 ghost use Rattle.sql_grammar.specs.Selects as form;
 
-use crate::clauses::{
+use crate::expr::expr;
+use flat_rules::clauses::{
     alias, at_cross, at_intersect, at_join, at_set_operand, at_subquery, core_head, cross_word,
     intersect_head, join_word, set_head,
 };
-use crate::cursor::Cursor;
-use crate::expr::expr;
-use crate::rows;
-use crate::rows::{Conditions, CoreEnd, Grouped, Sources, TakenRows};
+use flat_rules::rows::{Conditions, CoreEnd, Grouped, Sources, TakenRows};
+use flat_rules::{Cursor, rows};
 use sql_grammar::Fault;
 use sql_grammar::tree::{Condition, Expr, Item, Join, Rows, Select, SetOperand, Source};
 use sql_lex::{Sign, Word};

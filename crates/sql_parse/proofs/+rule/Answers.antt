@@ -12,12 +12,12 @@ use Rattle.sql_grammar.specs.Classes.{word_class, sign_class, opens, query_class
 use Rattle.sql_grammar.specs.Combinators.{span_of, token, word, sign, list}
 use Rattle.sql_grammar.specs.Reading.{begins, read, and_then}
 use Rattle.sql_grammar.specs.Nesting.{readers}
-use Rattle.sql_parse.specs.Gives.{Gives, Makes, GoesOn}
+use Rattle.flat_rules.specs.Gives.{Gives, Makes, GoesOn}
 use Rattle.sql_grammar.specs.Expressions as form
 use Rattle.sql_grammar.specs.Selects as rows
 use Rattle.sql_parse.proofs.Deeper.{opened_is, too_deep}
 use Rattle.sql_parse.proofs.Going.{second_behind, chained, chained_twice, chained_marked, mapped_on, both_on, marked_made, marked_on, tested, tested_whole, nest_made, nest_on, nest_called, nest_tested}
-use Rattle.sql_parse.proofs.Lists.{many_started, many_stepped, many_failed, many_ended, list_started, list_stepped, list_failed, list_ended, seen_some}
+use Rattle.flat_rules.proofs.Lists.{many_started, many_stepped, many_failed, many_ended, list_started, list_stepped, list_failed, list_ended, seen_some}
 use Rattle.sql_parse.proofs.+rule.Goals as goal
 
 pub expr::nested_expr-returns-then-depth-eq0-clause-gives : goal.expr::nested_expr-returns-then-depth-eq0-clause-gives
@@ -167,13 +167,13 @@ expr::name_end-returns-clause-gives t c = nest_called (readers c.args.depth) (λ
 pub expr::dated-returns-clause-gives : goal.expr::dated-returns-clause-gives
 unfolding form.dated
 expr::dated-returns-clause-gives t c = second_behind (readers c.args.depth) form.follows (token date_class span_of) form.date_end form.name_end c.args.cursor.now c.in_ok-name.name c.date_name.new.self
-    c.name_end.result c.name_end.new.cursor c.in_ok-name.ensures.gives (sym c.sees.ensures ∙ c.if-sees.false) c.name_end.ensures.gives
+    c.name_end.result c.name_end.new.cursor c.in_ok-name.ensures.gives (sym c.at_text.ensures ∙ c.if-at_text.false) c.name_end.ensures.gives
 
 pub expr::in_test-returns-clause-gives : goal.expr::in_test-returns-clause-gives
 unfolding form.in_test form.member
 expr::in_test-returns-clause-gives t c = nest_tested (readers c.args.depth) (λ test. test c.args.negated c.args.left) form.follows (word w.In) (query_class ∷ []) a_select (λ _ query place negated left. node.Member place negated left query) (λ a b. a) (sign s.RightParenthesis) form.one_of
     c.args.cursor.now c.in_ok-place.place c.word.new.self c.nested_select-query.result c.nested_select-query.new.cursor c.member.result c.member.new.cursor
-    c.in_ok-place.ensures.gives (sym c.sees.ensures ∙ c.if-not-sees.false) c.nested_select-query.ensures.gives c.member.ensures.goes_on
+    c.in_ok-place.ensures.gives (sym c.at_query.ensures ∙ c.if-not-at_query.false) c.nested_select-query.ensures.gives c.member.ensures.goes_on
 
 pub expr::unary-returns-clause-gives : goal.expr::unary-returns-clause-gives
 unfolding form.unary

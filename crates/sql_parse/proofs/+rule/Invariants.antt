@@ -2,7 +2,7 @@ use Rattle.std.proofs.Common.{ℕ, ◌+◌, ◌*◌, ◌≤◌, length}
 use Rattle.sql_grammar.specs.Nesting.{readers}
 use Rattle.sql_grammar.specs.Expressions as form
 use Rattle.sql_grammar.specs.Selects as rows
-use Rattle.sql_parse.proofs.Lists.{ManySoFar, ListSoFar}
+use Rattle.flat_rules.proofs.Lists.{ManySoFar, ListSoFar}
 use Rattle.sql_parse.proofs.+rule.Given as goal
 
 -- how many functions may be entered before a level is opened

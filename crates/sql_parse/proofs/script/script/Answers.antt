@@ -7,7 +7,7 @@ use Rattle.sql_grammar.specs.Combinators.{optional}
 use Rattle.sql_grammar.specs.Reading.{read}
 use Rattle.sql_grammar.specs.Nesting.{readers}
 use Rattle.sql_grammar.specs.Statements as form
-use Rattle.sql_parse.proofs.Lists.{seen_some}
+use Rattle.flat_rules.proofs.Lists.{seen_some}
 use Rattle.sql_parse.proofs.Scripts.{script_started, script_not_started, script_stepped, script_failed, script_ended}
 use Rattle.sql_parse.proofs.script.script.Goals as goal
 
