@@ -1,10 +1,8 @@
 -- Heap pages that may not be there, and the pins on them.
 use Rattle.std.proofs.Common.{◌≡◌, ◌≢◌, ℕ, zero, suc, ◌+◌, ◌%◌, ◌^◌, ◌<◌, ◌≤◌, List, [], ◌∷◌, length, Option, Some, None, refl, arith}
 use Rattle.std.specs.Prelude.{IfSome, slice_index}
-use Rattle.row_image.specs.declared.layout.CellKind.{CellKind}
-use Rattle.row_image.specs.declared.image.ImageKind.TheVariants.{Rows, Heap}
+use Rattle.row_image.specs.declared.image.ImageKind.TheVariants.{Heap}
 use Rattle.page_body.specs.View.{PoolTerms, PoolView}
-use Rattle.number_bags.specs.Bags.{one_of}
 use Rattle.page_body.specs.Keeps.{PinnedOn}
 use Rattle.page_body.specs.Shows.{AreBases}
 use Rattle.number_bags.proofs.Bags.{one_same, one_other}

@@ -7,3 +7,4 @@ pub mod Below
 pub mod KeptParts
 pub mod ByNumber
 pub mod Owned
+pub mod Fits

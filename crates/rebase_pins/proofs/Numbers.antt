@@ -1,20 +1,20 @@
 -- The number of a row's part.
-use Rattle.std.proofs.Common.{◌≡◌, ℕ, zero, suc, ◌+◌, ◌<◌, ◌≤◌, Bool, true, false, cond, List, [], ◌∷◌, length, get_or, Option, Some, None, refl, sym, ap, subst, inl, inr, ◌∙◌, arith}
+use Rattle.std.proofs.Common.{◌≡◌, ℕ, zero, suc, ◌+◌, ◌<◌, ◌≤◌, Bool, cond, List, length, get_or, Some, refl, ap, subst, inl, inr, ◌∙◌, arith}
 use Rattle.std.specs.Prelude.{find, unwrap_or, nat_lt}
 use Rattle.std.specs.List.{range_with_len}
 use Rattle.std.proofs.lemmas.Bool.{lt-ltb, le-ltb, cases_lt}
 use Rattle.std.proofs.lemmas.List.FromFn.{get_or-range_with_len, length-range_with_len}
 use Rattle.row_image.specs.declared.layout.CellKind.{CellKind}
 use Rattle.row_image.specs.declared.image.ImageKind.TheVariants.{Rows}
-use Rattle.row_image.specs.Image.{row_count, part_count, part_at, part_for}
+use Rattle.row_image.specs.Image.{part_count, part_at}
 use Rattle.row_image.specs.Flat.{flat}
 use Rattle.row_image.specs.Followed.{LiesIn}
 use Rattle.row_image.specs.Rules.{IsAccepted}
-use Rattle.row_image.proofs.AcceptedLemmas.{Sound, sound_of}
+use Rattle.row_image.proofs.AcceptedLemmas.{sound_of}
 use Rattle.row_image.proofs.ByteLemmas.{SameOn, number_at_same}
 use Rattle.row_image.proofs.ListLemmas.{find_at, find_none}
 use Rattle.row_image.proofs.PartFacts.{PartFacts, facts_of, before_next, before_mono}
-use Rattle.row_image.proofs.FlatPieces.{RowsLie, flat_length, flat_at_head}
+use Rattle.row_image.proofs.FlatPieces.{flat_length, flat_at_head}
 use Rattle.row_image.proofs.FlatParts.{flat_part_at}
 use Rattle.row_image.proofs.WrittenAccepted.{parts_most}
 use Rattle.row_image.proofs.WrittenFlat.{rows_lie}

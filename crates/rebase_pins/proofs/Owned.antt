@@ -1,15 +1,14 @@
 -- Pins stay this worker's through calls that take no pin away.
-use Rattle.std.proofs.Common.{◌≡◌, ℕ, ◌+◌, ◌<◌, ◌≤◌, List, ◌++◌, arith}
+use Rattle.std.proofs.Common.{ℕ, ◌≤◌, List, ◌++◌, arith}
 use Rattle.page_body.specs.View.{PoolTerms, PoolView}
 use Rattle.page_body.specs.Keeps.{Kept, ValidOn}
 use Rattle.rebase_pins.specs.declared.row_page.RowPage.{RowPage}
 use Rattle.rebase_pins.specs.declared.row_page.RowPins.{RowPins}
 use Rattle.rebase_pins.specs.RowPages.{changed, under_pins, ids_of, IsOwned, IsLive}
 use Rattle.number_bags.proofs.Bags.{one_same}
-use Rattle.number_bags.specs.Bags.{times}
 use Rattle.page_body.specs.Keeps.{Gives, Reserves}
 use Rattle.page_body.proofs.Takes.{reserves_left}
-use Rattle.rebase_pins.proofs.Heaps.{counts, four, still, still_valid, still_live}
+use Rattle.rebase_pins.proofs.Heaps.{four, still, still_valid, still_live}
 
 module _ {Page Pin : Type 0} (t : PoolTerms Page Pin) where
   pub owned_on : (a b : PoolView Page Pin) (pins : RowPins Pin) → ValidOn a b → ((y : ℕ) → a.pins y ≤ b.pins y) → IsOwned t a pins → IsOwned t b pins

@@ -1,12 +1,11 @@
 -- What is kept where pins that were taken are given back.
-use Rattle.std.proofs.Common.{◌≡◌, ℕ, ◌+◌, ◌<◌, List, [], ◌∷◌, ◌++◌, length, Option, ap, ◌∙◌, arith}
+use Rattle.std.proofs.Common.{◌≡◌, ℕ, ◌<◌, List, [], ◌∷◌, ◌++◌, length, Option, ap, ◌∙◌, arith}
 use Rattle.page_body.specs.View.{PoolTerms, PoolView}
 use Rattle.page_body.proofs.Kept.{counted_then}
 use Rattle.page_body.specs.Keeps.{Steady, Kept}
 use Rattle.number_bags.specs.Bags.{times}
 use Rattle.page_body.specs.Keeps.{Takes, Gives}
 use Rattle.rebase_pins.specs.RowPages.{ids_in}
-use Rattle.number_bags.proofs.Bags.{times_both}
 use Rattle.page_body.proofs.Takes.{takes_then, gives_then, round_trip}
 
 module _ {Page Pin : Type 0} (t : PoolTerms Page Pin) where

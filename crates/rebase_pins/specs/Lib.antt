@@ -4,3 +4,4 @@ pub mod Parts
 pub mod Images
 pub mod Sight
 pub mod Seen
+pub mod Fits

@@ -3,9 +3,10 @@ ghost use Rattle.std.specs.Prelude.{◌≡◌, ℕ, ◌+◌, ◌-◌, ◌<◌, �
 ghost use Rattle.row_image.specs.Bytes.{IsPage};
 ghost use Rattle.row_image.specs.Cells.{LongCell, shown_cell};
 ghost use Rattle.row_image.specs.Image.{row_count, part_count, part_at, stored_cell};
-ghost use Rattle.row_image.specs.Rules.{IsAccepted};
+ghost use Rattle.row_image.specs.Rules.{text_limit, IsAccepted};
 ghost use Rattle.row_image.specs.Texts.{TextValue};
 ghost use Rattle.row_image.specs.declared.image.ImageKind.TheVariants.{Rows};
+ghost use Rattle.rebase_pins.specs.Fits.{RowFits};
 ghost use Rattle.rebase_pins.specs.RowPages.{under_pins, IsFormed, IsOwned, image_or_none};
 ghost use Rattle.rebase_pins.specs.Rows.{part_number, rows_of_page};
 ghost use Rattle.rebase_pins.specs.Parts.{IsPartSight, IsKnownPart};
@@ -154,15 +155,25 @@ impl<'a> RowView<'a> {
         }
     }
 
-    /// Reads a whole row into a buffer that is used again.
+    /// Reads a whole row into a buffer that is used again. Each value fits its column, also in a pool that isn't told.
     pub fn read_row(&self, row: u32, into: &mut [CellRead<'a>])
         requires row { row < length (rows_seen self.now) }
         requires long { length into.old ≡ length self.now.kinds }
-        ensures { map value_read into.new ≡ values_seen self.now row }
+        ensures values { map value_read into.new ≡ values_seen self.now row }
+        ensures fits { RowFits self.now.kinds (text_limit (length self.now.image)) (values_seen self.now row) }
     {
         for column in 0..self.columns() {
             into[column as usize] = self.value(row, column);
         }
+        self.row_fits(row);
+    }
+
+    // The values of a row fit their columns, since the page was accepted. It does nothing.
+    fn row_fits(&self, row: u32)
+        requires { row < length (rows_seen self.now) }
+        ensures { RowFits self.now.kinds (text_limit (length self.now.image)) (values_seen self.now row) }
+    {
+        let _image = self.image;
     }
 }
 

@@ -23,7 +23,8 @@ use Rattle.page_body.specs.Shows.{most_frames}
 use Rattle.page_body.specs.declared.open.OpenPage.{OpenPage}
 use Rattle.rebase_pins.specs.Rows.{page_rows}
 use Rattle.rebase_pins.proofs.ByNumber.{rows_by_number}
-use Rattle.row_sets.specs.Cells.{RowFits, AllFit, long_of, long_in, long_total, cell_of, cells_of}
+use Rattle.rebase_pins.specs.Fits.{RowFits}
+use Rattle.row_sets.specs.Cells.{AllFit, long_of, long_in, long_total, cell_of, cells_of}
 use Rattle.row_sets.specs.LongTexts.{TextAt, TextsAt}
 use Rattle.row_sets.specs.Put.{PutsRow, KeepsOpen, put_values}
 use Rattle.row_sets.specs.Writers.{Reaches, Reached, AreParts, IsOpenRows}

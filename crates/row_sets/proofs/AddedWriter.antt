@@ -19,7 +19,8 @@ use Rattle.string_heap.specs.Heaps.{used, KeepsTexts}
 use Rattle.page_body.specs.Shows.{most_frames}
 use Rattle.row_sets.specs.Put.{PutsRow, KeepsOpen, put_values, base_in, text_place}
 use Rattle.row_sets.specs.LongTexts.{TextsAt}
-use Rattle.row_sets.specs.Cells.{RowFits, long_in, long_total}
+use Rattle.rebase_pins.specs.Fits.{RowFits}
+use Rattle.row_sets.specs.Cells.{long_in, long_total}
 use Rattle.row_sets.specs.Sets.{lists_in, joined}
 use Rattle.row_sets.specs.Writers.{Writing, HasRoom, AreParts, Reaches, Reached, number_of, IsOpenRows, IsWhole, IsBase, IsThere, heaps_now, content_else, if_at, bytes_of, open_list, written_cells, used_heaps, count_open, count_used, open_in, writer_holding, writer_ids}
 use Rattle.row_sets.specs.declared.writer.Writer.{Writer}

@@ -14,3 +14,4 @@ pub mod Fresh
 pub mod Dropped
 pub mod Opened
 pub mod PageAt
+mod Bounds

@@ -1,6 +1,6 @@
 -- One row page of a set.
 use Rattle.std.proofs.Common.{◌≡◌, ℕ, zero, suc, ◌+◌, ◌≤◌, List, [], ◌∷◌, ◌++◌, length, drop, Option, Some, None, Result, Ok, Err, refl, ap, sym, subst, ◌∙◌, arith}
-use Rattle.std.specs.Prelude.{IsTrue, IfOk, IfSome}
+use Rattle.std.specs.Prelude.{IsTrue, IfOk, IfSome, IsSomeAnd, slice_get}
 use Rattle.row_image.specs.declared.layout.CellKind.{CellKind}
 use Rattle.std.proofs.Math.ListN.{drop_of_length-le}
 use Rattle.number_bags.proofs.Bags.{one_same}
@@ -69,6 +69,12 @@ module _ {Page Pin : Type 0} (t : PoolTerms Page Pin) where
       ∙ ap (λ l. joined (lists_in t set.layout l)) e
       ∙ ap (λ l. rows_of_page t set.layout p.page ++ joined l) (sym (lists_drop set.layout set.pages.items (n + 1)))
 
+  get_at : (ps : List (SetPage Page)) (n : ℕ) (p : SetPage Page) (rest : List (SetPage Page)) → drop n ps ≡ p ∷ rest → slice_get ps n ≡ Some p
+  get_at [] zero p rest e = absurd (cc e)
+  get_at (q ∷ ps) zero p rest e = ap (λ l. slice_get l 0) e
+  get_at [] (suc n) p rest e = absurd (cc e)
+  get_at (q ∷ ps) (suc n) p rest e = get_at ps n p rest e
+
   pub page_given : (set : RowSet Page) (n : ℕ) (p : SetPage Page) (r : Result (RowPins Pin) PoolFault) → drop n set.pages.items ≡ p ∷ drop (n + 1) set.pages.items → Formed t set → IfOk r (λ pins. under_pins t pins ≡ p.page) → IfOk r (IsPageOf t set n)
   page_given set n p (Err fault) e formed under = tt
   page_given set n p (Ok pins) e formed under =
@@ -76,6 +82,7 @@ module _ {Page Pin : Type 0} (t : PoolTerms Page Pin) where
       let some = is.some in
       let counted = is.counted in
       record {
+        under = subst (λ o. IsSomeAnd o (λ q. under_pins t pins ≡ q.page)) (sym (get_at set.pages.items n p (drop (n + 1) set.pages.items) e)) under;
         formed = subst (IsFormed t set.layout) (sym under) is.formed;
         some = subst (λ page. 1 ≤ length (rows_of_page t set.layout page)) (sym under) (omega (arith, some, counted));
         rows = subst (λ page. rows_from t set n ≡ rows_of_page t set.layout page ++ rows_from t set (n + 1)) (sym under) (rows_at set n p e);

@@ -23,7 +23,8 @@ use Rattle.row_image.specs.Rules.{text_limit}
 use Rattle.row_image.proofs.FitLemmas.{texts_fit_page}
 use Rattle.row_image.proofs.WrittenAccepted.{text_column}
 use Rattle.row_image.proofs.WrittenLemmas.{wanted_long}
-use Rattle.row_sets.specs.Cells.{Fits, RowFits, text_columns, long_of, long_in, cell_of, cells_of}
+use Rattle.rebase_pins.specs.Fits.{Fits, RowFits}
+use Rattle.row_sets.specs.Cells.{text_columns, long_of, long_in, cell_of, cells_of}
 use Rattle.ooc_types.specs.declared.schema.SqlType.{SqlType}
 use Rattle.rebase_pins.specs.Seen.{value_read}
 use Rattle.rebase_pins.specs.declared.cell_read.CellRead.{CellRead}

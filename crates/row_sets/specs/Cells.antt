@@ -1,33 +1,13 @@
 -- Rows of values below those of SQL, and the cells that they are stored as.
-use Rattle.std.specs.Prelude.{ℕ, pos, ◌+◌, ◌≤◌, ◌≤ℤ◌, nat_lt, if◌then◌else◌, List, [], ◌∷◌, length, take, ⊤}
-use Rattle.std.specs.Int.{w32, w64, w128}
-use Rattle.std.specs.Int.RustNames.{FitsSigned}
+use Rattle.std.specs.Prelude.{ℕ, ◌+◌, nat_lt, if◌then◌else◌, List, [], ◌∷◌, length, take, ⊤}
 use Rattle.row_image.specs.declared.limits.TheConstants.{MOST_SHORT}
 use Rattle.row_image.specs.declared.layout.CellKind.{CellKind}
-use Rattle.row_image.specs.declared.layout.CellKind.TheVariants.{Bit, Four, Eight, Sixteen, Text}
 use Rattle.row_image.specs.Layout.{is_text}
 use Rattle.row_image.specs.Cells.{StoredCell, NullCell, NumberCell, ShortCell, LongCell}
 use Rattle.row_image.specs.Texts.{CellValue, NullValue, NumberValue, TextValue, ValueRow}
+use Rattle.rebase_pins.specs.Fits.{RowFits}
 
--- NULL, or a value that a column of a kind takes, where texts have at most `limit` bytes
-abbrev pub Fits : CellKind → ℕ → CellValue → Type 0
-Fits kind limit NullValue = ⊤
-Fits Bit limit (NumberValue z) = (pos 0 ≤ℤ z) × (z ≤ℤ pos 1)
-Fits Four limit (NumberValue z) = FitsSigned w32 z
-Fits Eight limit (NumberValue z) = FitsSigned w64 z
-Fits Sixteen limit (NumberValue z) = FitsSigned w128 z
-Fits Text limit (NumberValue z) = ⊥
-Fits Text limit (TextValue text) = length text ≤ limit
-Fits _ limit (TextValue text) = ⊥
-
--- a row with a value for each column, which the column takes
-abbrev pub RowFits : List CellKind → ℕ → List CellValue → Type 0
-RowFits [] limit [] = ⊤
-RowFits [] limit (value ∷ values) = ⊥
-RowFits (kind ∷ kinds) limit [] = ⊥
-RowFits (kind ∷ kinds) limit (value ∷ values) = Fits kind limit value × RowFits kinds limit values
-
--- each row of a list does
+-- each row of a list fits the columns
 abbrev pub AllFit : List CellKind → ℕ → List ValueRow → Type 0
 AllFit kinds limit [] = ⊤
 AllFit kinds limit (row ∷ rows) = RowFits kinds limit row.values × AllFit kinds limit rows

@@ -1,5 +1,5 @@
 -- What a cursor has still to give.
-use Rattle.std.specs.Prelude.{◌≡◌, ℕ, ◌+◌, ◌≤◌, List, [], ◌++◌, length, drop, Option, Some, None}
+use Rattle.std.specs.Prelude.{◌≡◌, ℕ, ◌+◌, ◌≤◌, List, [], ◌++◌, length, drop, slice_get, Option, Some, None, IsSomeAnd}
 use Rattle.row_image.specs.Texts.{ValueRow}
 use Rattle.page_body.specs.View.{PoolTerms, PoolView}
 use Rattle.page_body.specs.Keeps.{Takes, Kept}
@@ -24,6 +24,7 @@ rows_under t set pins = rows_of_page t set.layout (under_pins t pins)
 
 -- The pins are on a row page of a set and on its heap pages. It has a row, and its rows are the set's from its place on.
 pub record IsPageOf {Page Pin : Type 0} (t : PoolTerms Page Pin) (set : RowSet Page) (page : ℕ) (pins : RowPins Pin) : Type 0 where
+  pub under : IsSomeAnd (slice_get set.pages.items page) (λ p. under_pins t pins ≡ p.page)
   pub formed : IsFormed t set.layout (under_pins t pins)
   pub some : 1 ≤ length (rows_under t set pins)
   pub rows : rows_from t set page ≡ rows_under t set pins ++ rows_from t set (page + 1)

@@ -49,6 +49,10 @@ writer_holding t w = record {
   held = count_open w.open_rows + count_open w.open_heap;
 }
 
+-- the pool has two frames for the writer, with those that it holds
+abbrev pub HasFrames : {Page Pin : Type 0} → PoolTerms Page Pin → PoolView Page Pin → Writer Page → Type 0
+HasFrames t a w = a.held + 2 ≤ a.grant + (writer_holding t w).held
+
 -- the bytes of the open heap page, where it has a text
 abbrev pub bytes_of : Option OpenPage → List ℕ
 bytes_of None = []

@@ -5,7 +5,8 @@ ghost use Rattle.row_image.specs.Bytes.{IsPage};
 ghost use Rattle.row_image.specs.Image.{no_heap};
 ghost use Rattle.row_image.specs.Rules.{text_limit};
 ghost use Rattle.rebase_pins.specs.Seen.{value_read};
-ghost use Rattle.row_sets.specs.Cells.{RowFits, long_in};
+ghost use Rattle.rebase_pins.specs.Fits.{RowFits};
+ghost use Rattle.row_sets.specs.Cells.{long_in};
 ghost use Rattle.row_sets.specs.Writers.{HasRoom, HeapHasRoom, RowsHaveRoom, IsWhole, Writing, written_cells, number_of};
 ghost use Rattle.row_sets.specs.Adding.{KeepsPlace};
 

@@ -9,10 +9,10 @@ ghost use Rattle.string_heap.specs.Heaps.{used};
 ghost use Rattle.row_sets.specs.Put.{KeepsOpen};
 ghost use Rattle.page_body.specs.Refusals.{RoomFails};
 ghost use Rattle.rebase_pins.specs.Seen.{value_read};
-ghost use Rattle.row_sets.specs.Cells.{RowFits};
+ghost use Rattle.rebase_pins.specs.Fits.{RowFits};
 ghost use Rattle.row_sets.specs.Changes.{Changes};
 ghost use Rattle.row_sets.specs.Closing.{SameColumns};
-ghost use Rattle.row_sets.specs.Writers.{HasRoom, IsEmptyHeap, HeapHasRoom, RowsHaveRoom, Writing, IsWriterHere, count_open, written_cells, writer_holding};
+ghost use Rattle.row_sets.specs.Writers.{HasFrames, HasRoom, IsEmptyHeap, HeapHasRoom, RowsHaveRoom, Writing, IsWriterHere, count_open, written_cells, writer_holding};
 
 use crate::adding::{heap_has_room, rows_have_room, try_append};
 use crate::closing::{close_page, seal_heap};
@@ -34,7 +34,7 @@ pub fn append<P: Pages>(
     requires writing { Writing P.terms writer.old }
     requires here { IsWriterHere P.terms (P.view pages.old) writer.old }
     requires fits { RowFits writer.old.layout (text_limit writer.old.page_bytes) (map value_read row.now) }
-    requires room { (P.view pages.old).held + 2 ≤ (P.view pages.old).grant }
+    requires frames { HasFrames P.terms (P.view pages.old) writer.old }
     ensures rows { OnOk result (written_cells P.terms writer.new ≡ written_cells P.terms writer.old ++ record { hash = hash; values = map value_read row.now } ∷ []) }
     ensures same { OnErr result (written_cells P.terms writer.new ≡ written_cells P.terms writer.old) }
     ensures columns { SameColumns writer.old writer.new }
@@ -59,7 +59,7 @@ pub fn get_room<P: Pages>(
     requires writing { Writing P.terms writer.old }
     requires here { IsWriterHere P.terms (P.view pages.old) writer.old }
     requires fits { HEAP_HEAD + long ≤ writer.old.page_bytes }
-    requires room { (P.view pages.old).held + 2 ≤ (P.view pages.old).grant }
+    requires frames { HasFrames P.terms (P.view pages.old) writer.old }
     ensures room { OnOk result (HasRoom writer.new long) }
     ensures cells { written_cells P.terms writer.new ≡ written_cells P.terms writer.old }
     ensures columns { SameColumns writer.old writer.new }
@@ -103,11 +103,10 @@ fn get_rows_room<P: Pages>(writer: &mut Writer<P::Page>, pages: &mut P) -> Resul
     requires writing { Writing P.terms writer.old }
     requires here { IsWriterHere P.terms (P.view pages.old) writer.old }
     requires has { IfSome writer.old.open_rows (λ page. RowsHaveRoom writer.old.layout writer.old.page_bytes (Some page)) }
-    requires room { (P.view pages.old).held < (P.view pages.old).grant }
+    requires frames { HasFrames P.terms (P.view pages.old) writer.old }
     ensures room { OnOk result (RowsHaveRoom writer.new.layout writer.new.page_bytes writer.new.open_rows) }
     ensures open_heap { writer.new.open_heap ≡ writer.old.open_heap }
     ensures sealed { writer.new.sealed_heaps ≡ writer.old.sealed_heaps }
-    ensures held { (P.view pages.new).held ≤ (P.view pages.old).held + 1 }
     ensures cells { written_cells P.terms writer.new ≡ written_cells P.terms writer.old }
     ensures columns { SameColumns writer.old writer.new }
     ensures writing { Writing P.terms writer.new }
@@ -137,7 +136,7 @@ fn get_heap_room<P: Pages>(
     requires rows { RowsHaveRoom writer.old.layout writer.old.page_bytes writer.old.open_rows }
     requires few { (HeapHasRoom writer.old.page_bytes long writer.old.open_heap → ⊥) → writer.old.sealed_heaps + count_open writer.old.open_heap < 4 }
     requires fits { HEAP_HEAD + long ≤ writer.old.page_bytes }
-    requires room { (P.view pages.old).held < (P.view pages.old).grant }
+    requires frames { HasFrames P.terms (P.view pages.old) writer.old }
     ensures room { OnOk result (HeapHasRoom writer.new.page_bytes long writer.new.open_heap) }
     ensures open_rows { writer.new.open_rows ≡ writer.old.open_rows }
     ensures cells { written_cells P.terms writer.new ≡ written_cells P.terms writer.old }
@@ -161,7 +160,7 @@ fn open_heap<P: Pages>(writer: &mut Writer<P::Page>, pages: &mut P) -> Result<()
     requires rows { writer.old.open_rows ≢ None }
     requires none { writer.old.open_heap ≡ None }
     requires few { writer.old.sealed_heaps < 4 }
-    requires room { (P.view pages.old).held < (P.view pages.old).grant }
+    requires frames { HasFrames P.terms (P.view pages.old) writer.old }
     ensures empty { OnOk result (IsEmptyHeap writer.new.page_bytes writer.new.open_heap) }
     ensures open_rows { writer.new.open_rows ≡ writer.old.open_rows }
     ensures cells { written_cells P.terms writer.new ≡ written_cells P.terms writer.old }

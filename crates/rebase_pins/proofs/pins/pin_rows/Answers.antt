@@ -1,4 +1,4 @@
-use Rattle.std.proofs.Common.{◌≡◌, ◌≢◌, ◌+◌, ◌<◌, ◌≤◌, ℕ, ap, sym, arith, ◌∙◌}
+use Rattle.std.proofs.Common.{◌≡◌, ◌≢◌, ap, arith, ◌∙◌}
 use Rattle.row_image.specs.declared.image.ImageKind.TheVariants.{Heap}
 use Rattle.number_bags.specs.Bags.{one_of}
 use Rattle.rebase_pins.specs.RowPages.{changed}

@@ -1,7 +1,6 @@
-use Rattle.std.proofs.Common.{◌≡◌, ◌+◌, ◌≤◌, ℕ, arith}
-use Rattle.number_bags.specs.Bags.{one_of}
+use Rattle.std.proofs.Common.{arith}
 use Rattle.rebase_pins.specs.RowPages.{changed}
-use Rattle.rebase_pins.proofs.Heaps.{counts, two, four, still}
+use Rattle.rebase_pins.proofs.Heaps.{two, four, still}
 use Rattle.rebase_pins.proofs.pins.release.Goals as goal
 
 pub unpin_two-requires-clause-first : goal.unpin_two-requires-clause-first

@@ -1,4 +1,4 @@
-use Rattle.std.proofs.Common.{◌≡◌, refl, arith}
+use Rattle.std.proofs.Common.{refl, arith}
 use Rattle.rebase_pins.proofs.KeptParts.{number_in, kept_part, kept_base}
 use Rattle.rebase_pins.proofs.view.RowView.part_for.Goals as goal
 

@@ -1,13 +1,10 @@
-use Rattle.std.proofs.Common.{rules, ◌≡◌, ◌+◌, ◌-◌, ◌<◌, ℕ, List, [], ◌∷◌, length, get_or, sym, ap, ◌∙◌, subst, arith}
+use Rattle.std.proofs.Common.{rules, ◌+◌, ◌-◌, ◌<◌, ℕ, List, [], length, get_or, sym, ap, ◌∙◌, subst, arith}
 use Rattle.std.specs.Prelude.{slice_range}
 use Rattle.std.specs.Int.{w128}
 use mir.Val.{SFits}
 use Rattle.std.proofs.lemmas.Int.{to_z-of_z}
-use Rattle.row_image.specs.Image.{part_count, part_at, stored_cell}
-use Rattle.row_image.specs.Cells.{NullCell, ShortCell, LongCell}
+use Rattle.row_image.specs.Image.{part_at}
 use Rattle.row_image.specs.Texts.{TextValue}
-use Rattle.row_image.proofs.AcceptedLemmas.{sound_of}
-use Rattle.row_image.proofs.WrittenAccepted.{parts_most}
 use Rattle.rebase_pins.specs.Seen.{value_seen}
 use Rattle.rebase_pins.specs.Sight.{seen_in}
 use Rattle.rebase_pins.specs.Images.{Seen}

@@ -1,0 +1,3 @@
+pub mod DayCells
+pub mod PinnedRows
+pub mod RowCursors

@@ -1,0 +1,14 @@
+//! Runs of row sets: rows are written, read back one after the other and page by page, and copied, in any pool.
+#![tactic(auto)]
+
+mod forms;
+mod reading;
+mod session;
+#[cfg(test)]
+mod tests;
+mod writing;
+
+pub use forms::{are_columns, row_meets};
+pub use reading::{count_on_pages, count_same};
+pub use session::{Report, run};
+pub use writing::build;
