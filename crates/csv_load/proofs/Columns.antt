@@ -1,6 +1,6 @@
 -- Column by column.
-use Rattle.std.proofs.Common.{◌≡◌, ◌≢◌, ◌≤◌, ◌<◌, ℕ, zero, suc, ◌+◌, ◌++◌, ◌==◌, inl, inr, Bool, true, false, Some, None, List, [], ◌∷◌, take, drop, set, length, get_or, refl, sym, ap, ◌∙◌, arith, append_assoc, add-one, drop-cons}
-use Rattle.std.proofs.lemmas.List.{append-nil, drop_all}
+use Rattle.std.proofs.Common.{◌≡◌, ◌≢◌, ◌≤◌, ◌<◌, ℕ, zero, suc, ◌+◌, ◌++◌, ◌==◌, inl, inr, Bool, true, false, Some, None, List, [], ◌∷◌, take, drop, set, length, map, get_or, refl, sym, ap, ◌∙◌, arith, append_assoc, add-one, drop-cons}
+use Rattle.std.proofs.lemmas.List.{append-nil, drop_all, map-set, length-map}
 use Rattle.std.proofs.lemmas.Bool.{eq-eqb, ne_eqb, leb-true, and_parts}
 use Rattle.std.proofs.lemmas.Bool.Decides.{eqb_tells}
 use Rattle.std.specs.Prelude.{Result, Ok, Err}
@@ -12,9 +12,9 @@ use Rattle.ooc_types.specs.declared.schema.SqlType.TheVariants.{Boolean, Integer
 use Rattle.ooc_types.specs.declared.refusal.RefusalKind.{RefusalKind}
 use Rattle.ooc_types.specs.declared.refusal.RefusalKind.TheVariants.{FieldCount}
 use Rattle.csv_load.specs.declared.fault.Reason.{Reason}
-use Rattle.csv_load.specs.declared.fault.FieldStop.{FieldStop}
-use Rattle.csv_load.specs.declared.fault.FieldStop.TheVariants as field_stop
-use Rattle.csv_load.specs.Puts.{PutsRow, stop_at}
+use Rattle.csv_load.specs.declared.field_read.FieldRead.{FieldRead}
+use Rattle.csv_load.specs.FieldReads.{value_in}
+use Rattle.csv_load.specs.Reasons.{reason_at}
 use Rattle.csv_load.specs.Values.{field_value, IsColumnType, is_column_type, are_typed}
 use Rattle.csv_load.specs.Rows.{Reading, reason, with_value, column_values, row_of_fields}
 
@@ -73,7 +73,12 @@ values-more [] i value h = absurd (omega arith)
 values-more (v ∷ vs) zero value h = refl
 values-more (v ∷ vs) (suc i) value h = rw add-one (ap (λ l. v ∷ l) (rw add-one at (values-more vs i value (omega arith))))
 
-column-type : (kind : SqlType) → is_column_type kind ≡ true → IsColumnType kind
+pub length-values : (values : List Value) (i : ℕ) (value : Value) → length (set values i value) ≡ length values
+length-values [] i value = refl
+length-values (v ∷ vs) zero value = refl
+length-values (v ∷ vs) (suc i) value = ap suc (length-values vs i value)
+
+pub column-type : (kind : SqlType) → is_column_type kind ≡ true → IsColumnType kind
 column-type Boolean h = tt
 column-type Integer h = tt
 column-type BigInt h = tt
@@ -104,15 +109,17 @@ field-none (x ∷ parts) zero e = cc e
 field-none (x ∷ parts) (suc i) e = let h = field-none parts i e in omega (arith, h)
 
 -- why a record is refused whose column doesn't take its field
-pub bad-row : (r : Reading) (parts : List (List ℕ)) (column : ℕ) (s : FieldStop) (values : List Value) (counted : Bool) → counted ≡ (length parts == length r.columns)
-    → ((kind : RefusalKind) → s ≡ field_stop.Refused kind → column_values r r.columns 1 parts ≡ Err (reason column kind)) → PutsRow (row_of_fields r parts) (Err (stop_at counted column s)) values
-bad-row r parts column field_stop.OutOfMemory values true e bad = tt
-bad-row r parts column field_stop.OutOfMemory values false e bad = tt
-bad-row r parts column (field_stop.Refused kind) values true e bad = elim (eqb_tells (length parts) (length r.columns)) [
-  | inl same ↦ fields-same r parts same.1 ∙ bad kind refl
+pub bad-row : (r : Reading) (parts : List (List ℕ)) (column : ℕ) (kind : RefusalKind) (counted : Bool) → counted ≡ (length parts == length r.columns)
+    → column_values r r.columns 1 parts ≡ Err (reason column kind) → row_of_fields r parts ≡ Err (reason_at counted column kind)
+bad-row r parts column kind true e bad = elim (eqb_tells (length parts) (length r.columns)) [
+  | inl same ↦ fields-same r parts same.1 ∙ bad
   | inr other ↦ let wrong : true ≡ false = e ∙ other.0 in cc wrong
 ]
-bad-row r parts column (field_stop.Refused kind) values false e bad = elim (eqb_tells (length parts) (length r.columns)) [
+bad-row r parts column kind false e bad = elim (eqb_tells (length parts) (length r.columns)) [
   | inl same ↦ let wrong : false ≡ true = e ∙ same.0 in cc wrong
   | inr other ↦ fields-count r parts other.1
 ]
+
+-- the values of a list that is read, one more of which was put
+pub read-more : (fields : List FieldRead) (i : ℕ) (field : FieldRead) → i < length fields → take (i + 1) (map value_in (set fields i field)) ≡ take i (map value_in fields) ++ value_in field ∷ []
+read-more fields i field h = ap (take (i + 1)) (map-set value_in fields i field) ∙ values-more (map value_in fields) i (value_in field) (let long = length-map fields value_in in omega (arith, long, h))

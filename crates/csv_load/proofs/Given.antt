@@ -1,40 +1,34 @@
 -- What is given of the records ahead.
 use Rattle.std.proofs.Common.{◌≡◌, ◌<◌, ℕ, ◌+◌, true, false, Option, Some, None, List, length, refl, sym, ap, ◌∙◌}
 use Rattle.std.proofs.lemmas.Bool.{lt-ltb, le-ltb}
-use Rattle.std.specs.Prelude.{Ok, Err, option_map, IfSome}
+use Rattle.std.specs.Prelude.{Result, Ok, Err, option_map, IfSome}
 use Rattle.ooc_types.specs.declared.value.Value.{Value}
 use Rattle.ooc_types.specs.declared.refusal.RefusalKind.TheVariants.{FileTooLong, RecordTooLong, OpenQuote}
 use Rattle.csv_records.specs.Limits.{record_limit}
 use Rattle.csv_records.specs.Table.{ends_quoted}
 use Rattle.csv_records.specs.Fields.{fields}
 use Rattle.csv_records.specs.Files.{Records}
-use Rattle.csv_records.specs.Ahead.{Same, SplitsOff, FirstIsLong, IsRecord, no_records}
+use Rattle.csv_records.specs.Ahead.{Same, SplitsOff, FirstIsLong, IsRecord, no_records, with_record}
 use Rattle.csv_load.specs.declared.fault.Reason.{Reason}
 use Rattle.csv_load.specs.declared.fault.RowFault.{RowFault}
 use Rattle.csv_load.specs.declared.fault.RowFault.TheVariants.{Refused, Read, OutOfMemory}
-use Rattle.csv_load.specs.declared.fault.RecordStop.{RecordStop}
-use Rattle.csv_load.specs.declared.fault.RecordStop.TheVariants as stop
+use Rattle.csv_load.specs.declared.fault.Refusal.{Refusal}
 use Rattle.csv_records.specs.declared.fault.RecordFault.{RecordFault}
 use Rattle.csv_records.specs.declared.fault.RecordFault.TheVariants as record_fault
-use Rattle.csv_load.specs.Puts.{PutsRow, OpenStop, PassesHeader}
 use Rattle.csv_load.specs.Rows.{Reading, reason, refusal, rows_from, rows_behind_header, row_of, row_of_fields, record_reason}
-use Rattle.csv_load.specs.Ahead.{Given, given_from, given_behind, GivesRow, GivesEnd, GivesRefusal, row_fault, find_fault}
+use Rattle.csv_load.specs.Ahead.{Given, given_from, given_behind, outcome, with_next, GivesNext, GivesRow, GivesEnd, GivesRefusal, find_fault}
 
--- a row of the first record
-pub from-row : (r : Reading) (n : ℕ) (bytes : List ℕ) (row : List Value) (a b : Option Records) → SplitsOff a bytes b → row_of r bytes ≡ Ok row
-    → GivesRow (option_map (given_from r n) a) row (option_map (given_from r (n + 1)) b)
-unfolding rows_from
-from-row r n bytes row None b s e = tt
-from-row r n bytes row (Some all) None s e = absurd s
-from-row r n bytes row (Some all) (Some rest) s e = rw (s, e, rows_from) refl
-
--- a refusal of the first record
-pub from-refused : (r : Reading) (n : ℕ) (bytes : List ℕ) (why : Reason) (a b : Option Records) → SplitsOff a bytes b → row_of r bytes ≡ Err why
-    → GivesRefusal (option_map (given_from r n) a) (Refused (refusal n why))
-unfolding rows_from
-from-refused r n bytes why None b s e = tt
-from-refused r n bytes why (Some all) None s e = absurd s
-from-refused r n bytes why (Some all) (Some rest) s e = rw (s, e, rows_from) refl
+-- what the first record gives
+pub from-next : (r : Reading) (n : ℕ) (bytes : List ℕ) (a b : Option Records) → SplitsOff a bytes b
+    → GivesNext (option_map (given_from r n) a) (outcome r n bytes) (option_map (given_from r (n + 1)) b)
+unfolding rows_from outcome
+from-next r n bytes None b s = tt
+from-next r n bytes (Some all) None s = absurd s
+from-next r n bytes (Some all) (Some rest) s = ap (given_from r n) s ∙ by (row_of r bytes) refl
+  where
+    by : (o : Result (List Value) Reason) → row_of r bytes ≡ o → given_from r n (with_record bytes rest) ≡ with_next (outcome r n bytes) (given_from r (n + 1) rest)
+    by (Ok row) e = rw (e, rows_from, outcome) refl
+    by (Err why) e = rw (e, rows_from, outcome) refl
 
 pub from-end : (r : Reading) (n : ℕ) (a : Option Records) → IfSome a (λ all. all ≡ no_records false) → GivesEnd (option_map (given_from r n) a)
 unfolding rows_from
@@ -103,12 +97,41 @@ pub row-read : (r : Reading) (bytes : List ℕ) → record_reason r.delimiter by
 unfolding row_of
 row-read r bytes e = rw (e, row_of) refl
 
--- what is given stays as it was, and then a row of it is given
-pub same-row : (a b c : Option Given) (row : List Value) → Same a b → GivesRow b row c → GivesRow a row c
-same-row None b c row s h = tt
-same-row (Some before) None c row s h = cc s
-same-row (Some before) (Some same) None row s h = absurd h
-same-row (Some before) (Some same) (Some rest) row s h = let e : same ≡ before = cc s in sym e ∙ h
+-- what is given stays as it was, and then a record of it is given
+pub same-next : (a b c : Option Given) (next : Result (List Value) Refusal) → Same a b → GivesNext b next c → GivesNext a next c
+same-next None b c next s h = tt
+same-next (Some before) None c next s h = cc s
+same-next (Some before) (Some same) None next s h = absurd h
+same-next (Some before) (Some same) (Some rest) next s h = let e : same ≡ before = cc s in sym e ∙ h
+
+-- the record gives a row, or a refusal
+pub next-row : (a b : Option Given) (next : Result (List Value) Refusal) (row : List Value) → GivesNext a next b → next ≡ Ok row → GivesRow a row b
+next-row None b next row h e = tt
+next-row (Some before) None next row h e = absurd h
+next-row (Some before) (Some rest) next row h e = h ∙ ap (λ o. with_next o rest) e
+
+pub next-refused : (a b : Option Given) (next : Result (List Value) Refusal) (why : Refusal) → GivesNext a next b → next ≡ Err why → GivesRefusal a (Refused why)
+next-refused None b next why h e = tt
+next-refused (Some before) None next why h e = absurd h
+next-refused (Some before) (Some rest) next why h e = h ∙ ap (λ o. with_next o rest) e
+
+-- the row of a record
+pub outcome-row : (r : Reading) (n : ℕ) (bytes : List ℕ) (row : List Value) → outcome r n bytes ≡ Ok row → row_of r bytes ≡ Ok row
+unfolding outcome
+outcome-row r n bytes row e = by (row_of r bytes) refl
+  where
+    by : (o : Result (List Value) Reason) → row_of r bytes ≡ o → row_of r bytes ≡ Ok row
+    by (Ok values) is = let same : ◌≡◌ {A = Result (List Value) Refusal} (Ok values) (Ok row) = rw (is, outcome) at e in is ∙ (let v : values ≡ row = cc same in ap Ok v)
+    by (Err why) is = let wrong : ◌≡◌ {A = Result (List Value) Refusal} (Err (refusal n why)) (Ok row) = rw (is, outcome) at e in cc wrong
+
+-- what reading the record's fields tells
+pub outcome-read : (r : Reading) (n : ℕ) (bytes : List ℕ) (values : List Value) → row_of r bytes ≡ Ok values → outcome r n bytes ≡ Ok values
+unfolding outcome
+outcome-read r n bytes values e = rw (e, outcome) refl
+
+pub outcome-refused : (r : Reading) (n : ℕ) (bytes : List ℕ) (why : Reason) → row_of r bytes ≡ Err why → outcome r n bytes ≡ Err (refusal n why)
+unfolding outcome
+outcome-refused r n bytes why e = rw (e, outcome) refl
 
 pub same-end : (a b : Option Given) → Same a b → GivesEnd b → GivesEnd a
 same-end None b s h = tt
@@ -129,24 +152,6 @@ behind-fault r record_fault.FileTooLong a over long = behind-over r a (over refl
 behind-fault r record_fault.RecordTooLong a over long = behind-long r a (long refl)
 behind-fault r record_fault.Read a over long = tt
 behind-fault r record_fault.OutOfMemory a over long = tt
-
--- and those of one that is
-pub from-stop : (r : Reading) (n : ℕ) (bytes : List ℕ) (s : RecordStop) (values : List Value) (a b : Option Records) → SplitsOff a bytes b → PutsRow (row_of r bytes) (Err s) values → GivesRefusal (option_map (given_from r n) a) (row_fault n s)
-from-stop r n bytes stop.OutOfMemory values a b split h = tt
-from-stop r n bytes (stop.Refused why) values a b split h = from-refused r n bytes why a b split h
-
-pub behind-stop : (r : Reading) (bytes : List ℕ) (s : RecordStop) (a b : Option Records) → SplitsOff a bytes b → PassesHeader (record_reason r.delimiter bytes) (Err s) → GivesRefusal (option_map (given_behind r) a) (row_fault 0 s)
-behind-stop r bytes stop.OutOfMemory a b split h = tt
-behind-stop r bytes (stop.Refused why) a b split h = behind-refused r bytes why a b split h
-
--- a record that ends inside of quotes
-pub open-row : (r : Reading) (bytes : List ℕ) (s : RecordStop) (values : List Value) → record_reason r.delimiter bytes ≡ Some (reason (length (fields r.delimiter bytes)) OpenQuote) → OpenStop r.delimiter bytes s → PutsRow (row_of r bytes) (Err s) values
-open-row r bytes stop.OutOfMemory values e h = tt
-open-row r bytes (stop.Refused why) values e h = reason-row r bytes (reason (length (fields r.delimiter bytes)) OpenQuote) e ∙ ap Err (sym h)
-
-pub open-header : (d : ℕ) (bytes : List ℕ) (s : RecordStop) → record_reason d bytes ≡ Some (reason (length (fields d bytes)) OpenQuote) → OpenStop d bytes s → PassesHeader (record_reason d bytes) (Err s)
-open-header d bytes stop.OutOfMemory e h = tt
-open-header d bytes (stop.Refused why) e h = e ∙ ap Some (sym h)
 
 pub same-refused : (a b : Option Given) (f : RowFault) → Same a b → GivesRefusal b f → GivesRefusal a f
 same-refused a b Read s h = tt

@@ -4,3 +4,4 @@ pub mod Splits
 pub mod Columns
 pub mod Given
 pub mod Told
+pub mod RowsOf

@@ -1,5 +1,5 @@
 -- The rows ahead of a reader of rows.
-use Rattle.std.specs.Prelude.{◌≡◌, ℕ, Bool, if◌then◌else◌, Option, Some, None, Result, Ok, Err, List, [], ◌∷◌, option_map, IfSome, IsSomeAnd, ⊤}
+use Rattle.std.specs.Prelude.{◌≡◌, ℕ, ◌+◌, Bool, Option, Some, None, Result, Ok, Err, List, [], ◌∷◌, length, option_map, IfSome, IsSomeAnd, ⊤}
 use Rattle.ooc_types.specs.declared.value.Value.{Value}
 use Rattle.csv_records.specs.Files.{Records}
 use Rattle.csv_records.specs.Ahead.{Position, IsRecord, told_records}
@@ -7,20 +7,25 @@ use Rattle.csv_load.specs.declared.fault.Refusal.{Refusal}
 use Rattle.csv_load.specs.declared.fault.RowFault.{RowFault}
 use Rattle.csv_load.specs.declared.fault.RowFault.TheVariants.{Refused, Read, OutOfMemory}
 use Rattle.csv_load.specs.Rows.{Reading, reason, refusal, rows_from, rows_behind_header, row_of}
-use Rattle.csv_load.specs.declared.fault.RecordStop.{RecordStop}
-use Rattle.csv_load.specs.declared.fault.RecordStop.TheVariants as stop
+use Rattle.csv_load.specs.declared.stage.Stage.{Stage}
+use Rattle.csv_load.specs.declared.stage.Stage.TheVariants.{Header, Rows, End, Failed}
 use Rattle.csv_records.specs.declared.fault.RecordFault.{RecordFault}
 use Rattle.csv_records.specs.declared.fault.RecordFault.TheVariants as record_fault
 use Rattle.ooc_types.specs.declared.refusal.RefusalKind.TheVariants.{FileTooLong, RecordTooLong}
 
--- How rows are made of records, whether the header is the next record, the number of the next record of data, whether
--- the end or a refusal was told, and the position in the file.
+-- How rows are made of records, what comes next, the number of the record of data that was found last, the position in
+-- the file, and the bytes of the record that was found last, where one was.
 pub record RowReader : Type 0 where
   pub reading : Reading
-  pub header : Bool
+  pub stage : Stage
   pub number : ℕ
-  pub ended : Bool
   pub position : Position
+  pub current : List ℕ
+  pub found : Bool
+
+-- how many bytes are carried or may still be taken
+abbrev pub bytes_ahead : RowReader → ℕ
+bytes_ahead s = length s.position.carried + s.position.allowed
 
 -- rows one after the other, and at the end the refusal, if there is one
 abbrev pub Given : Type 0
@@ -34,12 +39,36 @@ given_from r n all = rows_from r n all.too_long all.records
 abbrev pub given_behind : Reading → Records → Given
 given_behind r all = rows_behind_header r all.too_long all.records
 
+-- what is given at a stage, where the record that was found last has this number
+abbrev pub given_at : Stage → Reading → ℕ → Records → Given
+given_at Header r n all = given_behind r all
+given_at Rows r n all = given_from r (n + 1) all
+given_at End r n all = []
+given_at Failed r n all = []
+
 abbrev pub given_of : RowReader → Records → Given
-given_of s all = if s.header then given_behind s.reading all else given_from s.reading s.number all
+given_of s all = given_at s.stage s.reading s.number all
+
+-- what a record of this number gives
+unfoldable pub outcome : Reading → ℕ → List ℕ → Result (List Value) Refusal
+outcome r n bytes = elim (row_of r bytes) [ Err why ↦ Err (refusal n why) | Ok row ↦ Ok row ]
+
+abbrev pub outcome_of : RowReader → Result (List Value) Refusal
+outcome_of s = outcome s.reading s.number s.current
+
+-- a row in front of others, or a refusal, behind which nothing is given
+abbrev pub with_next : Result (List Value) Refusal → Given → Given
+with_next (Err why) rest = Err why ∷ []
+with_next (Ok row) rest = Ok row ∷ rest
 
 -- what is ahead, where the files tell what is left
 abbrev pub told_rows : RowReader → Option (List ℕ) → Option Given
 told_rows s left = option_map (given_of s) (told_records s.reading.delimiter s.position left)
+
+-- what a record gives was split off what is known
+abbrev pub GivesNext : Option Given → Result (List Value) Refusal → Option Given → Type 0
+GivesNext None next now = ⊤
+GivesNext (Some before) next now = IsSomeAnd now (λ rest. before ≡ with_next next rest)
 
 -- a row was split off those that are known
 abbrev pub GivesRow : Option Given → List Value → Option Given → Type 0
@@ -70,10 +99,12 @@ told_from r n p left = option_map (given_from r n) (told_records r.delimiter p l
 abbrev pub told_behind : Reading → Position → Option (List ℕ) → Option Given
 told_behind r p left = option_map (given_behind r) (told_records r.delimiter p left)
 
--- the fault of a record with this number
-abbrev pub row_fault : ℕ → RecordStop → RowFault
-row_fault n stop.OutOfMemory = OutOfMemory
-row_fault n (stop.Refused why) = Refused (refusal n why)
+-- the row that is meant was put, or it is refused as it is meant to be
+abbrev pub PutsRow : Result (List Value) Refusal → Result (Unit {0}) RowFault → List Value → Type 0
+PutsRow meant (Err (Refused why)) values = meant ≡ Err why
+PutsRow meant (Err Read) values = ⊥
+PutsRow meant (Err OutOfMemory) values = ⊤
+PutsRow meant (Ok u) values = meant ≡ Ok values
 
 -- the fault of a record with this number that isn't found
 abbrev pub find_fault : ℕ → RecordFault → RowFault

@@ -2,7 +2,9 @@ pub mod Words
 pub mod Numbers
 pub mod Dates
 pub mod Values
-pub mod Puts
+pub mod FieldReads
+pub mod Reasons
+pub mod FieldReaders
 pub mod Rows
 pub mod Formats
 pub mod Parts

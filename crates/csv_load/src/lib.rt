@@ -6,18 +6,26 @@
 
 mod blanks;
 mod fault;
+mod field_read;
+mod field_reader;
 mod find;
 mod format;
+mod laws;
 mod numbers;
 mod options;
 mod plain;
-mod record;
+mod quoted;
 mod rows;
+mod stage;
+mod store;
 mod typed;
 mod values;
 mod words;
 
 pub use fault::{Refusal, RowFault};
+pub use field_read::FieldRead;
+pub use laws::rows_are_of_their_columns;
 pub use options::CsvOptions;
 pub use rows::CsvRows;
+pub use stage::Stage;
 pub use typed::{are_typed, is_delimiter};

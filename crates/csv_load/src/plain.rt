@@ -1,15 +1,16 @@
 //! The row of a record without quotes.
-ghost use Rattle.std.specs.Prelude.{◌≡◌, ◌≤◌, ◌<◌, ◌==◌, ◌+◌, false, length, slice_range, slice_index, Err};
+ghost use Rattle.std.specs.Prelude.{◌≡◌, ◌≤◌, ◌<◌, ◌==◌, ◌+◌, false, length, map, slice_range, slice_index};
 ghost use Rattle.std.specs.List.{list_any, slice_split};
-ghost use Rattle.csv_load.specs.Values.{field_value, IsColumnType};
 ghost use Rattle.csv_load.specs.Rows.{row_of_fields};
 ghost use Rattle.csv_load.specs.Formats.{reading_in};
-ghost use Rattle.csv_load.specs.Puts.{PutsRow, PutsAt, stop_at};
+ghost use Rattle.csv_load.specs.FieldReads.{ReadsAll, value_in};
+ghost use Rattle.csv_load.specs.Reasons.{reason_at};
 
-use crate::fault::{FieldStop, Reason, RecordStop};
+use crate::fault::Reason;
+use crate::field_read::FieldRead;
 use crate::format::Format;
-use crate::values::put_field;
-use ooc_types::{Column, RefusalKind, Value};
+use crate::values::read_field;
+use ooc_types::RefusalKind;
 
 // The end of the field that begins at a place.
 #[inline(always)]
@@ -28,34 +29,11 @@ fn field_end(delimiter: u8, bytes: &[u8], from: usize) -> usize
     bytes.len()
 }
 
-/// The refusal of a whole record, or of one of its columns.
-pub fn refused(column: u32, kind: RefusalKind) -> RecordStop
-    ensures { result ≡ RecordStop.Refused (record { column = column; kind = kind }) }
+/// Why a whole record is refused, or one of its columns.
+pub fn reason(column: u32, kind: RefusalKind) -> Reason
+    ensures { result ≡ record { column = column; kind = kind } }
 {
-    RecordStop::Refused(Reason { column, kind })
-}
-
-/// Puts the value of a field in place of the one at a place.
-#[inline(always)]
-pub fn put_at(
-    format: &Format,
-    column: &Column,
-    field: &[u8],
-    values: &mut [Value],
-    place: usize,
-) -> Result<(), FieldStop>
-    requires kind { IsColumnType column.now.kind }
-    requires place { place < length values.old }
-    ensures { PutsAt (field_value format.now.limit format.now.null column.now field.now) result values.old place values.new }
-{
-    put_field(
-        format.alloc,
-        format.limit,
-        format.null.as_bytes(),
-        column,
-        field,
-        &mut values[place],
-    )
+    Reason { column, kind }
 }
 
 // How many fields there are.
@@ -68,56 +46,65 @@ fn count_fields(delimiter: u8, bytes: &[u8]) -> usize
 }
 
 /// Why a record is refused whose column doesn't take its field, by whether it has as many fields as columns.
-pub fn column_stop(counted: bool, column: u32, stop: FieldStop) -> RecordStop
-    ensures { result ≡ stop_at counted column stop }
+pub fn column_reason(counted: bool, column: u32, kind: RefusalKind) -> Reason
+    ensures { result ≡ reason_at counted column kind }
 {
-    match stop {
-        FieldStop::OutOfMemory => RecordStop::OutOfMemory,
-        FieldStop::Refused(kind) => {
-            if counted {
-                return refused(column, kind);
-            }
-            refused(0, RefusalKind::FieldCount)
-        }
+    if counted {
+        return reason(column, kind);
     }
+    reason(0, RefusalKind::FieldCount)
 }
 
 // The same of a record without quotes, whose fields are counted only now.
 #[cold]
 #[inline(never)]
-fn plain_stop(
+fn plain_reason(
     delimiter: u8,
     bytes: &[u8],
     columns: usize,
     column: u32,
-    stop: FieldStop,
-) -> RecordStop
-    ensures { result ≡ stop_at (length (slice_split (λ b. b == delimiter) bytes.now) == columns) column stop }
+    kind: RefusalKind,
+) -> Reason
+    ensures { result ≡ reason_at (length (slice_split (λ b. b == delimiter) bytes.now) == columns) column kind }
 {
-    column_stop(count_fields(delimiter, bytes) == columns, column, stop)
+    column_reason(count_fields(delimiter, bytes) == columns, column, kind)
 }
 
-/// Puts the values of a record without quotes in place of others.
-pub fn put_plain(format: &Format, bytes: &[u8], values: &mut [Value]) -> Result<(), RecordStop>
-    requires { length values.old ≡ length format.now.columns }
-    ensures { PutsRow (row_of_fields (reading_in format.now) (slice_split (λ b. b == format.now.delimiter) bytes.now)) result values.new }
+/// Reads the values of a record without quotes.
+pub fn read_plain<'a>(
+    format: &Format,
+    bytes: &'a [u8],
+    into: &mut [FieldRead<'a>],
+) -> Result<(), Reason>
+    requires { length into.old ≡ length format.now.columns }
+    ensures { ReadsAll (row_of_fields (reading_in format.now) (slice_split (λ b. b == format.now.delimiter) bytes.now)) result (map value_in into.new) }
 {
     let columns = format.columns.as_slice();
+    let null = format.null.as_bytes();
     let mut from = 0;
     for (i, column) in columns.iter().enumerate() {
         if from > bytes.len() {
-            return Err(refused(0, RefusalKind::FieldCount));
+            return Err(reason(0, RefusalKind::FieldCount));
         }
         let end = field_end(format.delimiter, bytes, from);
-        match put_at(format, column, &bytes[from..end], values, i) {
-            Ok(()) => from = end + 1,
-            Err(stop) => {
-                return Err(plain_stop(format.delimiter, bytes, columns.len(), i as u32 + 1, stop));
+        match read_field(format.limit, null, column, &bytes[from..end]) {
+            Ok(value) => {
+                into[i] = value;
+                from = end + 1;
+            }
+            Err(kind) => {
+                return Err(plain_reason(
+                    format.delimiter,
+                    bytes,
+                    columns.len(),
+                    i as u32 + 1,
+                    kind,
+                ));
             }
         }
     }
     if from <= bytes.len() {
-        return Err(refused(0, RefusalKind::FieldCount));
+        return Err(reason(0, RefusalKind::FieldCount));
     }
     Ok(())
 }

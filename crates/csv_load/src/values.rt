@@ -1,9 +1,9 @@
-//! The value of a field, put in place of another.
-ghost use Rattle.std.specs.Prelude.{◌≡◌, ◌≢◌, ◌≤◌, OnOk, IfOk, true, false, length, Ok, Err, if◌then◌else◌};
-ghost use Rattle.std.specs.Str.{is_utf8, bytes_eq};
+//! The value of a field, read where the field lies.
+ghost use Rattle.std.specs.Prelude.{◌≡◌, true, false, Ok, Err, if◌then◌else◌};
+ghost use Rattle.std.specs.Str.{is_utf8};
 ghost use Rattle.ooc_decimal.specs.Numeric.{IsNumeric};
 ghost use Rattle.csv_load.specs.Values.{field_value, typed_value, text_value, value_or_bad, IsColumnType};
-ghost use Rattle.csv_load.specs.Puts.{Puts};
+ghost use Rattle.csv_load.specs.FieldReads.{Reads};
 ghost use Rattle.csv_load.specs.Words.{truth_of};
 ghost use Rattle.csv_load.specs.Dates.{day_of};
 ghost use Rattle.csv_load.specs.Numbers.{number_of};
@@ -11,12 +11,10 @@ ghost use Rattle.ooc_types.specs.declared.refusal.RefusalKind.TheVariants as kin
 ghost use Rattle.ooc_types.specs.declared.value.Value.TheVariants as sql;
 
 use crate::blanks::without_blanks;
-use crate::fault::FieldStop;
+use crate::field_read::FieldRead;
 use crate::numbers::read_in_range;
 use crate::words::{read_day, read_truth};
-use ooc_types::{Column, OutOfMemory, RefusalKind, SqlType, Text, Value};
-use std::alloc::Global;
-use std::mem::replace;
+use ooc_types::{Column, RefusalKind, SqlType};
 use std::str;
 
 // Whether bytes are UTF-8.
@@ -29,128 +27,91 @@ fn is_text(bytes: &[u8]) -> bool
     }
 }
 
-// Puts a copy of bytes in place of a value. The memory of a text that stands there is used again.
-#[inline(always)]
-fn put_bytes(alloc: Global, bytes: &[u8], value: &mut Value) -> Result<(), OutOfMemory>
-    ensures { OnOk result (value.new ≡ sql.Text bytes.now) }
-{
-    match replace(value, Value::Null) {
-        Value::Text(text) => {
-            let mut held = text.into_vec();
-            held.clear();
-            held.extend_from_slice(bytes)?;
-            *value = Value::Text(Text::from_vec(held));
-            Ok(())
-        }
-        _ => {
-            *value = Value::Text(Text::from_slice(alloc, bytes)?);
-            Ok(())
-        }
-    }
-}
-
-// Puts a text in place of a value.
-fn put_text(alloc: Global, limit: usize, field: &[u8], value: &mut Value) -> Result<(), FieldStop>
-    ensures { Puts (text_value limit field.now) result value.new }
+fn text_field<'a>(limit: usize, field: &'a [u8]) -> Result<FieldRead<'a>, RefusalKind>
+    ensures { Reads (text_value limit field.now) result }
 {
     if !is_text(field) {
-        return Err(FieldStop::Refused(RefusalKind::BadUtf8));
+        return Err(RefusalKind::BadUtf8);
     }
     if field.len() > limit {
-        return Err(FieldStop::Refused(RefusalKind::TextTooLong));
+        return Err(RefusalKind::TextTooLong);
     }
-    put_bytes(alloc, field, value)?;
-    Ok(())
+    Ok(FieldRead::Text(field))
 }
 
-// Puts a number in place of a value.
-fn put_number(field: &[u8], kind: SqlType, scale: u8, value: &mut Value) -> Result<(), FieldStop>
+#[inline(always)]
+fn number_field<'a>(field: &'a [u8], kind: SqlType, scale: u8) -> Result<FieldRead<'a>, RefusalKind>
     requires { IsNumeric kind }
-    ensures { Puts (value_or_bad (λ n. sql.Number n scale) (number_of kind field.now)) result value.new }
+    ensures { Reads (value_or_bad (λ n. sql.Number n scale) (number_of kind field.now)) result }
 {
     match read_in_range(field, kind) {
-        Some(digits) => {
-            *value = Value::Number { digits, scale };
-            Ok(())
-        }
-        None => Err(FieldStop::Refused(RefusalKind::BadValue)),
+        Some(digits) => Ok(FieldRead::Number { digits, scale }),
+        None => Err(RefusalKind::BadValue),
     }
 }
 
-// Puts a truth in place of a value.
-fn put_truth(field: &[u8], value: &mut Value) -> Result<(), FieldStop>
-    ensures { Puts (value_or_bad sql.Truth (truth_of field.now)) result value.new }
+fn truth_field<'a>(field: &'a [u8]) -> Result<FieldRead<'a>, RefusalKind>
+    ensures { Reads (value_or_bad sql.Truth (truth_of field.now)) result }
 {
     match read_truth(field) {
-        Some(truth) => {
-            *value = Value::Truth(truth);
-            Ok(())
-        }
-        None => Err(FieldStop::Refused(RefusalKind::BadValue)),
+        Some(truth) => Ok(FieldRead::Truth(truth)),
+        None => Err(RefusalKind::BadValue),
     }
 }
 
-// Puts a day in place of a value.
-fn put_day(field: &[u8], value: &mut Value) -> Result<(), FieldStop>
-    ensures { Puts (value_or_bad sql.Day (day_of field.now)) result value.new }
+fn day_field<'a>(field: &'a [u8]) -> Result<FieldRead<'a>, RefusalKind>
+    ensures { Reads (value_or_bad sql.Day (day_of field.now)) result }
 {
     match read_day(field) {
-        Some(day) => {
-            *value = Value::Day(day);
-            Ok(())
-        }
-        None => Err(FieldStop::Refused(RefusalKind::BadValue)),
+        Some(day) => Ok(FieldRead::Day(day)),
+        None => Err(RefusalKind::BadValue),
     }
 }
 
-// Puts the value of a field that isn't NULL in place of another.
+// The value of a field that isn't NULL.
+#[inline(always)]
 #[tactic(auto, unfolding(crate::specs::Values::typed_value))]
-fn put_typed(
-    alloc: Global,
+fn typed_field<'a>(
     limit: usize,
     kind: SqlType,
-    field: &[u8],
-    value: &mut Value,
-) -> Result<(), FieldStop>
+    field: &'a [u8],
+) -> Result<FieldRead<'a>, RefusalKind>
     requires { IsColumnType kind }
-    ensures { Puts (typed_value limit kind field.now) result value.new }
+    ensures { Reads (typed_value limit kind field.now) result }
 {
     match kind {
-        SqlType::Varchar => put_text(alloc, limit, field, value),
-        SqlType::Integer | SqlType::BigInt | SqlType::HugeInt => put_number(field, kind, 0, value),
-        SqlType::Decimal { scale, .. } => put_number(field, kind, scale, value),
-        SqlType::Boolean => put_truth(without_blanks(field), value),
-        SqlType::Date => put_day(without_blanks(field), value),
+        SqlType::Varchar => text_field(limit, field),
+        SqlType::Integer | SqlType::BigInt | SqlType::HugeInt => number_field(field, kind, 0),
+        SqlType::Decimal { scale, .. } => number_field(field, kind, scale),
+        SqlType::Boolean => truth_field(without_blanks(field)),
+        SqlType::Date => day_field(without_blanks(field)),
     }
 }
 
-// Puts NULL in place of a value, where the column may have it.
-fn put_null(nullable: bool, value: &mut Value) -> Result<(), FieldStop>
-    ensures { Puts (if nullable then Ok sql.Null else Err kind.NullRefused) result value.new }
+// NULL, where the column may have it.
+fn null_field<'a>(nullable: bool) -> Result<FieldRead<'a>, RefusalKind>
+    ensures { Reads (if nullable then Ok sql.Null else Err kind.NullRefused) result }
 {
     if !nullable {
-        return Err(FieldStop::Refused(RefusalKind::NullRefused));
+        return Err(RefusalKind::NullRefused);
     }
-    *value = Value::Null;
-    Ok(())
+    Ok(FieldRead::Null)
 }
 
-/// Puts the value of a field in place of another.
+/// The value of a field.
 #[inline(always)]
 #[tactic(auto, unfolding(crate::specs::Values::field_value))]
-pub fn put_field(
-    alloc: Global,
+pub fn read_field<'a>(
     limit: usize,
     null: &[u8],
     column: &Column,
-    field: &[u8],
-    value: &mut Value,
-) -> Result<(), FieldStop>
+    field: &'a [u8],
+) -> Result<FieldRead<'a>, RefusalKind>
     requires { IsColumnType column.now.kind }
-    ensures { Puts (field_value limit null.now column.now field.now) result value.new }
+    ensures { Reads (field_value limit null.now column.now field.now) result }
 {
     if field == null {
-        return put_null(column.nullable, value);
+        return null_field(column.nullable);
     }
-    put_typed(alloc, limit, column.kind, field, value)
+    typed_field(limit, column.kind, field)
 }

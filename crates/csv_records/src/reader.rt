@@ -89,6 +89,14 @@ impl RecordReader {
         &self.buffer.buffer[self.found.from..self.found.to]
     }
 
+    /// The byte between fields.
+    pub fn delimiter(&self) -> u8
+        ensures is { result ≡ self.now.delimiter }
+        ensures marks { IsDelimiter result }
+    {
+        self.delimiter
+    }
+
     /// Whether that record may have a double quote.
     pub fn has_quotes(&self) -> bool
         ensures { result ≡ false → list_any is_special self.now.current ≡ false }

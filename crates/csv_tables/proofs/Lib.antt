@@ -1,0 +1,3 @@
+pub mod RowForms
+pub mod Adding
+pub mod Loaded
