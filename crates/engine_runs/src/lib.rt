@@ -2,7 +2,6 @@
 #![tactic(auto)]
 
 mod fields;
-mod lines;
 mod plain;
 
 pub use plain::plain_run;

@@ -13,12 +13,11 @@ ghost use Rattle.ooc_engine.specs.Causes.{asks, table_of};
 ghost use Rattle.ooc_engine.specs.Status.{refusal_at, script_refusal};
 
 use crate::fields::{is_header, is_number, is_short_text, number_of};
-use crate::lines::push_names;
 use ooc_engine::{
     Form, FormStop, MOST_BYTES, Place, Refusal, Sign, Status, form_of, is_formed, line_of,
 };
 use ooc_types::{Column, OutOfMemory, RefusalKind, Row, Schema, SqlType, Text, Value};
-use result_print::print_row;
+use result_print::{print_line, print_row};
 use std::alloc::{AllocError, Global};
 
 fn lines_in<'a>(alloc: Global, text: &'a [u8]) -> Result<Vec<&'a [u8]>, AllocError>
@@ -236,7 +235,7 @@ fn block(alloc: Global, form: &Form, rows: &[Row]) -> Result<Vec<u8>, OutOfMemor
     let kept = kept_rows(alloc, form.sign, number, place, rows)?;
     let names = form.names.as_slice();
     let mut out = Vec::new(alloc);
-    push_names(names, &mut out)?;
+    print_line(names, &mut out)?;
     print_rows(alloc, &form.columns, names, kept.as_slice(), &mut out)?;
     out.push(b'\n')?;
     Ok(out)

@@ -17,6 +17,6 @@ pub mod FormFound
 pub mod NameLemmas
 pub mod NamedLemmas
 pub mod StepLemmas
-mod LastLineLemmas
+pub mod LastLineLemmas
 mod RefusalLemmas
 mod AnswerLemmas

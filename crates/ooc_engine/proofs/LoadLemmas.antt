@@ -9,6 +9,7 @@ use Rattle.ooc_types.specs.declared.value.Value.{Value}
 use Rattle.row_image.specs.declared.cell.CellIn.{CellIn}
 use Rattle.row_image.specs.Cells.{given_cell}
 use Rattle.ooc_engine.specs.Catalog.{Table, more_rows}
+use Rattle.ooc_engine.specs.Loaded.{MayGrow}
 use Rattle.ooc_engine.specs.FileRows.{row_of, rows_of_records, fields_in, field_value}
 use Rattle.ooc_engine.specs.Pages.{given_values}
 use Rattle.ooc_engine.specs.Stored.{cell_value}
@@ -31,6 +32,17 @@ module _ (columns : List Column) (goal : Option Table) (now : Table) (left : Lis
 
   pub no_next : row_of columns (fields_in line) ≡ None → goal ≡ None
   no_next read = at_line None read
+
+-- no row more, and some rows more
+pub grown_none : (table : Table) → MayGrow table table
+grown_none table = ([], ap (λ all. record { schema = table.schema; rows = all }) (sym (append-nil table.rows)))
+
+pub grown_more : (old mid new : Table) (rows : List (List Value)) → MayGrow old mid → new ≡ more_rows mid rows → MayGrow old new
+grown_more old mid new rows grown is =
+    (grown.0 ++ rows, is ∙ ap (λ table. more_rows table rows) grown.1 ∙ ap (λ all. record { schema = old.schema; rows = all }) (append_assoc old.rows grown.0 rows))
+
+pub grown_same : (old mid new : Table) → MayGrow old mid → new ≡ mid → MayGrow old new
+grown_same old mid new grown is = (grown.0, is ∙ grown.1)
 
 pub none_onto : (table : Table) (rows : Option (List (List Value))) → onto table rows ≡ None → rows ≡ None
 none_onto table None e = refl

@@ -1,5 +1,5 @@
 -- A list of named tables as a finite map.
-use Rattle.std.proofs.Common.{◌≡◌, ℕ, suc, zero, ◌+◌, ◌<◌, Bool, true, false, cond, List, [], ◌∷◌, ◌++◌, map, length, take, drop, get_or, set, Option, None, Some, Result, Ok, Err, refl, sym, ap, ◌∙◌, subst, arith, ◌⊎◌, ⊎_elim}
+use Rattle.std.proofs.Common.{◌≡◌, ℕ, suc, zero, ◌+◌, ◌<◌, Bool, true, false, cond, List, [], ◌∷◌, ◌++◌, map, length, take, drop, get_or, set, Option, None, Some, Result, Ok, Err, refl, sym, ap, ◌∙◌, subst, arith, ◌⊎◌, ⊎_elim, inl, inr}
 use Rattle.std.specs.Str.{bytes_eq}
 use Rattle.std.specs.Ordering.{nat_cmp, eq_by_cmp}
 use Rattle.std.specs.Cmp.Lexicographic.{slice_cmp}
@@ -15,6 +15,8 @@ use Rattle.ooc_engine.specs.FileRows.{file_rows}
 use Rattle.ooc_engine.specs.Loaded.{Loads}
 use Rattle.ooc_engine.specs.Catalog.{Catalog, Table, more_rows}
 use Rattle.ooc_engine.specs.Named.{entry_of, tables_of, look, IsFirst, LoadsInto}
+use Rattle.ooc_engine.specs.Left.{LeftInto}
+use Rattle.ooc_types.specs.declared.value.Value.{Value}
 use Rattle.ooc_engine.proofs.FormLemmas.{equal_bytes, same_bytes}
 
 find-look : (ts : List NamedTable) (name : List ℕ) → find (slice_cmp nat_cmp) name (map entry_of ts) ≡ look name ts
@@ -115,12 +117,14 @@ module _ (ts : List NamedTable) (name : List ℕ) (place : ℕ) (r : NamedTable)
       tables-set ts place r.name v r f.within is refl (ap (λ n. look n (take place ts)) first_named ∙ f.before)
       ∙ ap (λ n. insert (tables_of ts) n v) first_named
 
+  renewed_by : (old : Catalog) (rows : List (List Value)) (new : Table) → tables_of ts ≡ old → new ≡ more_rows r.table rows → tables_of (set ts place (renewed r.name new)) ≡ insert old name (more_rows r.table rows)
+  renewed_by old rows new view is = first_set new ∙ ap (λ t. insert (tables_of ts) name t) is ∙ ap (λ m. insert m name (more_rows r.table rows)) view
+
   loaded_so : (old : Catalog) (bytes : List ℕ) (result : Result (Unit {0}) FormStop) (new : Table) → tables_of ts ≡ old → Loads r.table (file_rows r.table.schema bytes) result new
       → LoadsInto old name bytes (Some r.table) result (tables_of (set ts place (renewed r.name new)))
-  loaded_so old bytes (Err stop.NotBuilt) new view h = h.0
-  loaded_so old bytes (Err stop.OutOfMemory) new view h = tt
-  loaded_so old bytes (Ok done) new view h =
-      (h.0, h.1, first_set new ∙ ap (λ t. insert (tables_of ts) name t) h.2 ∙ ap (λ m. insert m name (more_rows r.table h.0)) view)
+  loaded_so old bytes (Err stop.NotBuilt) new view h = (h.0, (h.1.0, renewed_by old h.1.0 new view h.1.1))
+  loaded_so old bytes (Err stop.OutOfMemory) new view h = (h.0, renewed_by old h.0 new view h.1)
+  loaded_so old bytes (Ok done) new view h = (h.0, h.1, renewed_by old h.0 new view h.2)
 
 -- what a catalog has under the name of a place's table
 pub got : (old : Catalog) (ts seen : List NamedTable) (name : List ℕ) (place : ℕ) (r : NamedTable) → tables_of ts ≡ old → seen ≡ ts → IsFirst seen name place → r ≡ get_or ts place r → Some r.table ≡ get old name
@@ -140,9 +144,15 @@ loaded_into old ts seen name bytes place r result new view same f is h =
     subst (λ (o : Option Table). LoadsInto old name bytes o result (tables_of (set ts place (renewed r.name new)))) (got old ts seen name place r view same f is)
     (loaded_so ts name place r first is old bytes result new view h)
 
-pub loaded_nowhere : (old : Catalog) (ts seen : List NamedTable) (name bytes : List ℕ) (new : Catalog) → tables_of ts ≡ old → seen ≡ ts → look name seen ≡ None → LoadsInto old name bytes (get old name) (Err stop.NotBuilt) new
-loaded_nowhere old ts seen name bytes new view same none =
-    subst (λ (o : Option Table). LoadsInto old name bytes o (Err stop.NotBuilt) new) (got_none old ts seen name view same none) refl
+pub loaded_nowhere : (old : Catalog) (ts seen : List NamedTable) (name bytes : List ℕ) → tables_of ts ≡ old → seen ≡ ts → look name seen ≡ None → LoadsInto old name bytes (get old name) (Err stop.NotBuilt) old
+loaded_nowhere old ts seen name bytes view same none =
+    subst (λ (o : Option Table). LoadsInto old name bytes o (Err stop.NotBuilt) old) (got_none old ts seen name view same none) (refl, refl)
+
+-- what a refused file leaves
+pub left_into : (old : Catalog) (name bytes : List ℕ) (o : Option Table) (e : FormStop) (new : Catalog) → get old name ≡ o → LoadsInto old name bytes o (Err e) new → LeftInto old name new
+left_into old name bytes None e new is h = inl h.1
+left_into old name bytes (Some table) stop.NotBuilt new is h = inr (table, is, h.1)
+left_into old name bytes (Some table) stop.OutOfMemory new is h = inr (table, is, h)
 
 pub pushed : (old : Catalog) (ts more : List NamedTable) (name : List ℕ) (table : Table) → tables_of ts ≡ old → more ≡ ts ++ renewed name table ∷ [] → get old name ≡ None → tables_of more ≡ insert old name table
 pushed old ts more name table view are none =

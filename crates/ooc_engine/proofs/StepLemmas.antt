@@ -78,7 +78,7 @@ module _ (number : ℕ) (catalog : Catalog) (name small : List ℕ) (lower : sma
   all_read whole bytes h short = sym (h.1 ∙ ap (λ (r : List ℕ). bytes ++ r) (h.2 short) ∙ append-nil bytes)
 
   loaded_step : (o : Option Table) (whole bytes text : List ℕ) (new : Catalog) → IsReadUpTo most_bytes whole bytes → LoadsInto catalog small bytes o (Ok tt) new → text ≡ [] → IsStep (copy_outcome number catalog name o (Some whole)) new (Ok text)
-  loaded_step None whole bytes text new read into none = cc
+  loaded_step None whole bytes text new read into none = let wrong = into.0 in absurd (cc wrong)
   loaded_step (Some table) whole bytes text new read into none =
       let same : file_rows table.schema whole ≡ Some into.0 = ap (file_rows table.schema) (sym (all_read whole bytes read (short_file table.schema bytes into.0 into.1))) ∙ into.1 in
       rw same (no_block, ap (λ (m : Catalog). Gives m no_block) (ap (λ n. insert catalog n (more_rows table into.0)) (sym lower) ∙ sym into.2), none)
@@ -96,7 +96,7 @@ module _ (number : ℕ) (catalog : Catalog) (name small : List ℕ) (lower : sma
 
   unloaded_step : (o : Option Table) (whole bytes : List ℕ) (status : Status) (before new : Catalog) → IsReadUpTo most_bytes whole bytes → LoadsInto catalog small bytes o (Err stop.NotBuilt) before → status ≡ refusal_at number Whole NotBuilt → IsStep (copy_outcome number catalog name o (Some whole)) new (Err status)
   unloaded_step None whole bytes status before new read into stop = stop_step (refusal_at number Whole NotBuilt) status new stop
-  unloaded_step (Some table) whole bytes status before new read into stop = rw (no_rows table.schema whole bytes read into) (stop_step (refusal_at number Whole NotBuilt) status new stop)
+  unloaded_step (Some table) whole bytes status before new read into stop = rw (no_rows table.schema whole bytes read into.0) (stop_step (refusal_at number Whole NotBuilt) status new stop)
 
   -- it isn't of the form
   pub copy_unloaded : (file : Option (List ℕ)) (bytes : List ℕ) (e : FormStop) (status : Status) (before new : Catalog) → IsFileRead (no_file number) file (Ok bytes) → e ≡ stop.NotBuilt → LoadsInto catalog small bytes (get catalog small) (Err e) before → status ≡ refusal_at number Whole NotBuilt → IsStep (copy_outcome number catalog name (table_at catalog name) file) new (Err status)

@@ -3,6 +3,7 @@ pub mod Status
 pub mod Lines
 pub mod Catalog
 pub mod Named
+pub mod Left
 pub mod Block
 pub mod ScriptText
 pub mod FormReading

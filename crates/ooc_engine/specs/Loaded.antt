@@ -9,10 +9,14 @@ use Rattle.ooc_engine.specs.Catalog.{Table, more_rows}
 use Rattle.ooc_engine.specs.Pages.{given_values}
 use Rattle.ooc_engine.specs.Stored.{cell_value}
 
--- The rows of a file came behind those of the table; or there are none, and the columns are as before.
+-- Some rows came behind those of the table, or none did.
+abbrev pub MayGrow : Table → Table → Type 0
+MayGrow old new = (rows : List (List Value)) × (new ≡ more_rows old rows)
+
+-- The rows of a file came behind those of the table; or the file has none, and the table may have rows more.
 abbrev pub Loads : Table → Option (List (List Value)) → Result (Unit {0}) FormStop → Table → Type 0
-Loads old file (Err NotBuilt) new = (file ≡ None) × (new.schema ≡ old.schema)
-Loads old file (Err OutOfMemory) new = new.schema ≡ old.schema
+Loads old file (Err NotBuilt) new = (file ≡ None) × MayGrow old new
+Loads old file (Err OutOfMemory) new = MayGrow old new
 Loads old file (Ok done) new = (rows : List (List Value)) × (file ≡ Some rows) × (new ≡ more_rows old rows)
 
 -- the cells have a row's values; or there is no row

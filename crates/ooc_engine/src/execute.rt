@@ -1,12 +1,15 @@
 //! One statement.
-ghost use Rattle.std.specs.Prelude.{◌≡◌, ◌≢◌, ◌≤◌, [], IfErr, IfSome, Err};
+ghost use Rattle.std.specs.Prelude.{◌≡◌, ◌≢◌, ◌≤◌, [], IfOk, IfErr, IfSome, OnErr, Err};
 ghost use Rattle.std.specs.FinMap.{get};
+ghost use Rattle.std.specs.Str.{str_to_ascii_lowercase};
 ghost use Rattle.ooc_io.specs.Counts.{Rose};
 ghost use Rattle.ooc_engine.specs.Catalog.{table_at};
 ghost use Rattle.ooc_engine.specs.Meaning.{outcome, create_outcome, copy_outcome, select_outcome, is_asked};
 ghost use Rattle.ooc_engine.specs.ScriptText.{is_table};
 ghost use Rattle.ooc_engine.specs.Status.{refusal_at};
 ghost use Rattle.ooc_engine.specs.Ends.{IsStep, IsOfFiles, result_items};
+ghost use Rattle.ooc_engine.specs.LastLine.{IsBlock};
+ghost use Rattle.ooc_engine.specs.Left.{LeftInto, LeftBy};
 
 use crate::catalog::{Catalog, small_letters};
 use crate::form::FormStop;
@@ -53,6 +56,8 @@ fn create(
     catalog: &mut Catalog,
 ) -> Result<Vec<u8>, Status>
     ensures step { IsStep (create_outcome number catalog.old name.now columns.now (table_at catalog.old name.now)) catalog.new (result_items result) }
+    ensures block { IfOk result (λ block. IsBlock block.items) }
+    ensures left { OnErr result (catalog.new ≡ catalog.old) }
     ensures no_read { result ≢ Err Status.ReadFault }
     ensures kinds { IfErr result IsOfFiles }
 {
@@ -80,6 +85,8 @@ fn copy<F: Files>(
 ) -> Result<Vec<u8>, Status>
     ensures step { IfSome (F.holds files.old) (λ held.
         IsStep (copy_outcome number catalog.old name.now (table_at catalog.old name.now) (get held file.now)) catalog.new (result_items result)) }
+    ensures block { IfOk result (λ block. IsBlock block.items) }
+    ensures left { OnErr result (LeftInto catalog.old (str_to_ascii_lowercase name.now) catalog.new) }
     ensures holds { F.holds files.new ≡ F.holds files.old }
     ensures later { F.faults files.old ≤ F.faults files.new }
     ensures read_fault { result ≡ Err Status.ReadFault → Rose (F.faults files.old) (F.faults files.new) }
@@ -127,6 +134,7 @@ fn choose(
     catalog: &Catalog,
 ) -> Result<Vec<u8>, Status>
     ensures step { IsStep (select_outcome number catalog.now names.now filter.now (table_at catalog.now name.now)) catalog.now (result_items result) }
+    ensures block { IfOk result (λ block. IsBlock block.items) }
     ensures no_read { result ≢ Err Status.ReadFault }
     ensures kinds { IfErr result IsOfFiles }
 {
@@ -143,7 +151,8 @@ fn choose(
     }
 }
 
-/// Runs one statement over the catalog, and answers its block.
+/// Runs one statement over the catalog, and answers its block. A refused statement leaves the catalog as it was, but that a
+/// file that isn't loaded whole may leave rows in its table.
 #[tactic(auto, unfolding(crate::specs::Meaning::outcome))]
 pub fn run_statement<F: Files>(
     alloc: Global,
@@ -155,6 +164,8 @@ pub fn run_statement<F: Files>(
 ) -> Result<Vec<u8>, Status>
     ensures step { IfSome (F.holds files.old) (λ held.
         IsStep (outcome settings.now held number catalog.old statement.now) catalog.new (result_items result)) }
+    ensures block { IfOk result (λ block. IsBlock block.items) }
+    ensures left { OnErr result (LeftBy statement.now catalog.old catalog.new) }
     ensures holds { F.holds files.new ≡ F.holds files.old }
     ensures later { F.faults files.old ≤ F.faults files.new }
     ensures read_fault { result ≡ Err Status.ReadFault → Rose (F.faults files.old) (F.faults files.new) }

@@ -2,7 +2,7 @@
 ghost use Rattle.std.specs.Prelude.{◌≡◌, ◌<◌, ◌≤◌, ◌++◌, [], ◌∷◌, map, flat_map, length, All, IfOk, OnOk, IsTrue};
 ghost use Rattle.row_image.specs.Cells.{shown_cell};
 ghost use Rattle.row_image.specs.Image.{row_count, rows_of, stored_row};
-ghost use Rattle.result_print.specs.Printed.{block_text, field_text, value_text, joined, line_text};
+ghost use Rattle.result_print.specs.Printed.{block_text, value_text, joined, line_text};
 ghost use Rattle.ooc_engine.specs.Meaning as spec;
 ghost use Rattle.ooc_engine.specs.Meaning.{place_of, picked_columns, picked_rows, is_asked, compares};
 ghost use Rattle.ooc_engine.specs.ScriptText.{has_column, have_columns};
@@ -15,7 +15,7 @@ use crate::statement::{Filter, Names, Sign};
 use crate::table::Table;
 use ooc_decimal::print_number;
 use ooc_types::{Column, OutOfMemory, Text};
-use result_print::push_field;
+use result_print::{print_line, push_field};
 use row_image::{Cell, Layout, read_cell, row_count};
 use std::alloc::Global;
 
@@ -45,7 +45,7 @@ pub fn select(
         number: filter.number,
     };
     let mut text = Vec::new(alloc);
-    push_names(names.as_slice(), &mut text)?;
+    print_line(names.as_slice(), &mut text)?;
     push_lines(table, &test, picked.as_slice(), &mut text)?;
     text.push(b'\n')?;
     Ok(text)
@@ -81,43 +81,6 @@ fn places_of(alloc: Global, columns: &[Column], names: &[Text]) -> Result<Vec<u3
         places.push(place_of(columns, name.as_bytes()))?;
     }
     Ok(places)
-}
-
-// Adds the line of the names.
-pub fn push_names(names: &[Text], into: &mut Vec<u8>) -> Result<(), OutOfMemory>
-    ensures { OnOk result (into.new.items ≡ into.old.items ++ line_text (map field_text names.now)) }
-{
-    push_all_names(names, into)?;
-    into.push(b'\n')?;
-    Ok(())
-}
-
-fn push_all_names(names: &[Text], into: &mut Vec<u8>) -> Result<(), OutOfMemory>
-    ensures { OnOk result (into.new.items ≡ into.old.items ++ joined (map field_text names.now)) }
-{
-    match names.split_first() {
-        Some((first, others)) => {
-            push_field(first.as_bytes(), into)?;
-            push_other_names(others, into)
-        }
-        None => Ok(()),
-    }
-}
-
-fn push_other_names(names: &[Text], into: &mut Vec<u8>) -> Result<(), OutOfMemory>
-    ensures { OnOk result (into.new.items ≡ into.old.items ++ flat_map (λ name. 44 ∷ field_text name) names.now) }
-{
-    for name in names {
-        push_next_name(name.as_bytes(), into)?;
-    }
-    Ok(())
-}
-
-fn push_next_name(name: &[u8], into: &mut Vec<u8>) -> Result<(), OutOfMemory>
-    ensures { OnOk result (into.new.items ≡ into.old.items ++ 44 ∷ field_text name.now) }
-{
-    into.push(b',')?;
-    push_field(name, into)
 }
 
 // Adds the lines of the rows that are kept.

@@ -1,9 +1,10 @@
 //! The real files.
-ghost use Rattle.std.specs.Prelude.{◌≡◌, ◌≢◌, ◌≤◌, ◌<◌, ◌↔◌, None, IfOk, IsTrue, true, false, is_ok, is_err, length};
+ghost use Rattle.std.specs.Prelude.{◌≡◌, ◌≤◌, ◌<◌, None, Err, IfOk, true, false, is_ok, is_err, length};
 ghost use Rattle.std.specs.IoError.{error_kind};
 ghost use Rattle.std.specs.Io.KnownBytes.{ReadConsumes};
 ghost use Rattle.ooc_io.specs.Counts.{HasCause, faults_after};
-ghost use Rattle.ooc_io.specs.Opens.{Opens, HasOpenCause, is_failure};
+ghost use Rattle.ooc_io.specs.Opens.{HasOpenCause, is_failure};
+ghost use Rattle.oocsql.specs.Real.{open_fault};
 
 use ooc_io::{Files, FilesFailed, OpenFault};
 use std::fs;
@@ -45,13 +46,32 @@ impl<'a, R: std::rt::Files> RealFiles<'a, R> {
     {
         self.faults
     }
+
+    // Refuses to open, and counts it unless the file is missing.
+    fn refuse(&mut self, fault: OpenFault) -> Result<(), OpenFault>
+        ensures is { result ≡ Err fault }
+        ensures opened { self.new.opened ≡ self.old.opened }
+        ensures cause { HasOpenCause self.old.faults self.new.faults result }
+        ensures faults { self.new.faults ≡ faults_after (is_failure result) self.old.faults }
+    {
+        match fault {
+            OpenFault::Missing => Err(OpenFault::Missing),
+            OpenFault::Failed => {
+                self.faults = self.faults.saturating_add(1);
+                Err(OpenFault::Failed)
+            }
+        }
+    }
 }
 
 // A file is missing where the system says that it isn't found, and nowhere else.
-fn is_missing(error: &Error) -> bool
-    ensures { IsTrue result ↔ error_kind error.now ≡ ErrorKind.NotFound }
+fn open_fault(error: &Error) -> OpenFault
+    ensures { result ≡ open_fault (error_kind error.now) }
 {
-    error.kind() == ErrorKind::NotFound
+    match error.kind() {
+        ErrorKind::NotFound => OpenFault::Missing,
+        _ => OpenFault::Failed,
+    }
 }
 
 // Reads some bytes, again where a signal interrupts the call.
@@ -88,13 +108,7 @@ impl<'a, R: std::rt::Files> Files for RealFiles<'a, R> {
                 self.file = Some(file);
                 Ok(())
             }
-            Err(error) => {
-                if is_missing(&error) {
-                    return Err(OpenFault::Missing);
-                }
-                self.faults = self.faults.saturating_add(1);
-                Err(OpenFault::Failed)
-            }
+            Err(error) => self.refuse(open_fault(&error)),
         }
     }
 

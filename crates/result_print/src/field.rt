@@ -7,7 +7,7 @@ ghost use Rattle.ooc_decimal.specs.Kept.{KeepsFront};
 
 use date_values::print_date;
 use ooc_decimal::print_number;
-use ooc_types::{Column, OutOfMemory, Value};
+use ooc_types::{Column, OutOfMemory, Text, Value};
 
 fn is_special(byte: u8) -> bool
     ensures { result ≡ spec.is_special byte }
@@ -98,6 +98,14 @@ impl Field for Value {
             Value::Truth(true) => push_word(b"true", into),
             Value::Truth(false) => push_word(b"false", into),
         }
+    }
+}
+
+impl Field for Text {
+    ghost text = { field_text };
+
+    fn push_to(&self, into: &mut Vec<u8>) -> Result<(), OutOfMemory> {
+        push_field(self.as_bytes(), into)
     }
 }
 

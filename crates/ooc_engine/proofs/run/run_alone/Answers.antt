@@ -4,9 +4,8 @@ use Rattle.ooc_engine.specs.declared.status.Status.{Status}
 use Rattle.ooc_engine.specs.declared.status.Status.TheVariants.{Usage}
 use Rattle.ooc_engine.proofs.RunLemmas.{ended_usage, ended_read, ends_as, ends_by, stopped_as, not_stopped}
 use Rattle.ooc_engine.proofs.Top.{says_run, says_stopped, told_complete, stayed_not, stayed_not_after}
-use Rattle.std.proofs.Common.{[]}
 use Rattle.ooc_engine.proofs.SoFar.{Appends-none}
-use Rattle.ooc_engine.proofs.LastLineLemmas.{last_line}
+use Rattle.ooc_engine.proofs.LastLineLemmas.{last_line, grown_nothing}
 use Rattle.ooc_engine.proofs.run.run_alone.Goals as goal
 
 pub returns-in-Ok-clause-says : goal.returns-in-Ok-clause-says
@@ -53,4 +52,4 @@ returns-in-Err-clause-usage_told g c fault wrong =
     (ends_by _ _ c.in-Err.status (Usage fault) c.end.result (stopped_as _ c.in-Err.status (Usage fault) refl ((c.in-Err.ensures.usage fault).1 wrong)) c.end.ensures.line)
 
 pub returns-in-Err-clause-last : goal.returns-in-Err-clause-last
-returns-in-Err-clause-last g c = last_line _ (g.K.Sink.written c.args.out.now) _ c.in-Err.status c.end.result ([], Appends-none (g.K.Sink.written c.args.out.now)) c.end.ensures.line
+returns-in-Err-clause-last g c = last_line _ (g.K.Sink.written c.args.out.now) _ c.in-Err.status c.end.result (grown_nothing _ _ (Appends-none (g.K.Sink.written c.args.out.now))) c.end.ensures.line

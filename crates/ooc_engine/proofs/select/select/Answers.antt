@@ -33,5 +33,5 @@ returns c =
     c.as_slice-3.ensures.value ∙ c.in_ok-picked.ensures.places ∙ ap (λ (own : List Column). map (place_of own) c.as_slice.result.now) c.schema-columns.ensures.schema
     ∙ ap (λ (names : List (List ℕ)). map (place_of columns) names) c.as_slice.ensures
     in
-    whole c.args.table.now c.args.names.now c.as_slice-2.result.now c.args.filter.now c.new-text.result.items c.push_names.new.into.items c.push_lines.new.into.items _ c.place_of.result c.as_slice-3.result.now have
-    c.new-text.ensures.items c.as_slice-2.ensures at are c.in_ok-push_names.ensures c.in_ok-push_lines.ensures c.in_ok-push.ensures.items
+    whole c.args.table.now c.args.names.now c.as_slice-2.result.now c.args.filter.now c.new-text.result.items c.print_line.new.into.items c.push_lines.new.into.items _ c.place_of.result c.as_slice-3.result.now have
+    c.new-text.ensures.items c.as_slice-2.ensures at are c.in_ok-print_line.ensures.ok c.in_ok-push_lines.ensures c.in_ok-push.ensures.items

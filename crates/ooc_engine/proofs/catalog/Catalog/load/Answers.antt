@@ -8,4 +8,4 @@ returns-in-Some c =
 
 pub returns-in-None : goal.returns-in-None
 returns-in-None c =
-    loaded_nowhere c.args.self.now c.self.inside.tables.items c.as_slice.result.now c.args.name.now c.args.bytes.now c.args.self.now c.self.view_is c.as_slice.ensures.value c.in-None.ensures
+    loaded_nowhere c.args.self.now c.self.inside.tables.items c.as_slice.result.now c.args.name.now c.args.bytes.now c.self.view_is c.as_slice.ensures.value c.in-None.ensures
