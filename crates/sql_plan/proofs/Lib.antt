@@ -1,0 +1,12 @@
+pub mod ChosenLemmas
+pub mod CoreLemmas
+pub mod FreeLemmas
+pub mod Going
+pub mod Lists
+pub mod MoveLemmas
+pub mod NumberedLemmas
+pub mod PlanMade
+pub mod PlanOut
+pub mod SourceLemmas
+pub mod SpanLemmas
+pub mod SplitLemmas

@@ -1,0 +1,10 @@
+pub mod Chosen
+pub mod Conjuncts
+pub mod Cores
+pub mod Counted
+pub mod Numbered
+pub mod Places
+pub mod Sources
+pub mod Spans
+pub mod Stages
+pub mod Steps
