@@ -1,0 +1,8 @@
+use Rattle.std.proofs.Common.{◌≡◌, ap, ◌∙◌}
+use Rattle.sql_scope.specs.Texts.{text_at, plain_name}
+use Rattle.sql_clauses.proofs.names.written_name.Goals as goal
+
+pub returns : goal.returns
+returns c =
+    let name : c.in_ok-name.name.items ≡ plain_name (text_at c.script.result.now c.args.span) = c.in_ok-name.ensures in
+    c.from_vec.ensures ∙ name ∙ ap (λ s. plain_name (text_at s c.args.span)) c.script.ensures.script

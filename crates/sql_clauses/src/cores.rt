@@ -1,0 +1,219 @@
+//! A core, once its clauses are bound.
+ghost use Rattle.std.specs.Prelude.{◌≡◌, ◌≤◌, IfOk, length};
+ghost use Rattle.sql_scope.specs.Answer.{Gives, GoesOn, GoesOnBoth};
+ghost use Rattle.sql_clauses.specs.Aggregates.{AreAmong};
+ghost use Rattle.sql_clauses.specs.Grouping.{most_places};
+ghost use Rattle.sql_clauses.specs.Cores as rules;
+
+use crate::aggregates::{Gathered, are_unmixed, first_call, gather};
+use crate::conditions::{condition, conjuncts};
+use crate::grouping::list_over;
+use crate::items::{Outputs, covered};
+use crate::tables::MOST_COLUMNS;
+use bound_tree::{BoundCore, BoundRows, BoundSource, Conjunct, Grouping};
+use ooc_types::{OutOfMemory, RefusalKind, Schema};
+use sql_expr::Exprs;
+use sql_scope::{BindFault, BoundPart, ScopeColumn};
+use sqlite_items::{Boxed, Items};
+use std::alloc::Global;
+use std::mem;
+
+/// How many items a core may have.
+const MOST_ITEMS: usize = 64;
+
+/// The items of a core, with the conjuncts of its HAVING if it has one. Their aggregates stand with the outputs.
+#[derive(Drop)]
+pub struct Selected {
+    pub outputs: Outputs,
+    pub having: Option<Exprs>,
+}
+
+/// A core whose clauses are bound; `place` is that of its SELECT.
+#[derive(Drop)]
+pub struct Core {
+    pub place: usize,
+    pub distinct: bool,
+    pub sources: Items<BoundSource>,
+    pub columns: Items<ScopeColumn>,
+    pub conjuncts: Items<Conjunct>,
+    pub grouped: bool,
+    pub keys: Exprs,
+    pub selected: Selected,
+}
+
+/// Rows, and the names and types of their columns.
+#[derive(Drop)]
+pub struct NamedRows {
+    pub rows: Boxed<BoundRows>,
+    pub columns: Schema,
+}
+
+/// The items of a core without HAVING.
+pub fn without_having(outputs: Result<Outputs, BindFault>) -> Result<Selected, BindFault>
+    ensures { GoesOn rules.without_having outputs result }
+{
+    let outputs = outputs?;
+    Ok(Selected {
+        outputs,
+        having: None,
+    })
+}
+
+/// HAVING behind the items; its first token stands at `place`.
+pub fn with_having(
+    alloc: Global,
+    place: usize,
+    outputs: Result<Outputs, BindFault>,
+    part: BoundPart,
+) -> Result<Selected, BindFault>
+    ensures { GoesOnBoth (rules.with_having place) outputs part result }
+{
+    let mut outputs = outputs?;
+    let part = covered(true, condition(place, part?)?)?;
+    outputs.calls.append(part.calls)?;
+    let having = conjuncts(alloc, part.tree.into_inner())?;
+    Ok(Selected {
+        outputs,
+        having: Some(having),
+    })
+}
+
+/// `count(DISTINCT x)` stands beside no other aggregate.
+pub fn unmixed(selected: Result<Selected, BindFault>) -> Result<Selected, BindFault>
+    ensures { GoesOn rules.unmixed selected result }
+{
+    let selected = selected?;
+    let calls = selected.outputs.calls.as_slice();
+    if !are_unmixed(calls) {
+        return Err(BindFault::Refused {
+            place: first_call(calls),
+            kind: RefusalKind::DistinctMix,
+        });
+    }
+    Ok(selected)
+}
+
+fn is_narrow(core: &Core, all: &Gathered) -> bool
+    ensures { result ≡ rules.is_narrow core.now all.now }
+{
+    let items = core.selected.outputs.trees.as_slice().len();
+    let keys = core.keys.as_slice().len();
+    let aggregates = all.aggregates.as_slice().len();
+    items <= MOST_ITEMS && keys <= MOST_COLUMNS && aggregates <= MOST_COLUMNS - keys
+}
+
+fn plain_rows(core: Core) -> BoundRows
+    ensures { result ≡ rules.plain_rows core }
+{
+    let Core {
+        sources,
+        conjuncts,
+        selected,
+        distinct,
+        ..
+    } = core;
+    BoundRows::Core(BoundCore {
+        sources,
+        conjuncts,
+        grouping: None,
+        items: selected.outputs.trees,
+        distinct,
+    })
+}
+
+fn having_over(alloc: Global, core: &Core, all: &Gathered) -> Result<Option<Exprs>, OutOfMemory>
+    requires keys { length core.now.keys ≤ most_places }
+    requires calls { AreAmong most_places all.now.calls }
+    ensures { IfOk result (λ having. having ≡ rules.having_over core.now all.now core.now.selected.having) }
+{
+    match &core.selected.having {
+        Some(having) => {
+            let trees = grouped_trees(alloc, core, all, having)?;
+            Ok(Some(trees))
+        }
+        None => Ok(None),
+    }
+}
+
+fn grouped_trees(
+    alloc: Global,
+    core: &Core,
+    all: &Gathered,
+    trees: &Exprs,
+) -> Result<Exprs, OutOfMemory>
+    requires keys { length core.now.keys ≤ most_places }
+    requires calls { AreAmong most_places all.now.calls }
+    ensures { IfOk result (λ over. over ≡ rules.grouped_trees core.now all.now trees.now) }
+{
+    let list = trees.as_slice();
+    let keys = core.keys.as_slice();
+    let width = core.columns.len();
+    let calls = all.calls.as_slice();
+    list_over(alloc, list, keys, width, calls)
+}
+
+fn grouped_rows(alloc: Global, core: Core, all: Gathered) -> Result<BoundRows, OutOfMemory>
+    requires keys { length core.keys ≤ most_places }
+    requires calls { AreAmong most_places all.calls }
+    ensures { IfOk result (λ rows. rows ≡ rules.grouped_rows core all) }
+{
+    let items = grouped_trees(alloc, &core, &all, &core.selected.outputs.trees)?;
+    let having = having_over(alloc, &core, &all)?;
+    let Core {
+        sources,
+        conjuncts,
+        keys,
+        distinct,
+        ..
+    } = core;
+    Ok(BoundRows::Core(BoundCore {
+        sources,
+        conjuncts,
+        grouping: Some(Grouping {
+            keys,
+            aggregates: all.aggregates,
+            having,
+        }),
+        items,
+        distinct,
+    }))
+}
+
+fn named_rows(alloc: Global, core: Core, all: Gathered) -> Result<NamedRows, BindFault>
+    requires { AreAmong (length all.aggregates) all.calls }
+    ensures { Gives (rules.named_rows core all) result }
+{
+    if !is_narrow(&core, &all) {
+        return Err(BindFault::Refused {
+            place: core.place,
+            kind: RefusalKind::TooManyColumns,
+        });
+    }
+    let columns = core.selected.outputs.columns.clone()?;
+    let rows = rows_of(alloc, core, all)?;
+    Ok(NamedRows {
+        rows: Boxed::new(alloc, rows)?,
+        columns,
+    })
+}
+
+fn rows_of(alloc: Global, core: Core, all: Gathered) -> Result<BoundRows, OutOfMemory>
+    requires keys { length core.keys ≤ most_places }
+    requires calls { AreAmong most_places all.calls }
+    ensures { IfOk result (λ rows. rows ≡ rules.rows_of core all) }
+{
+    if core.grouped {
+        return grouped_rows(alloc, core, all);
+    }
+    Ok(plain_rows(core))
+}
+
+/// The rows of a core, once its order is bound or it is an operand.
+pub(crate) fn finished(alloc: Global, core: Core) -> Result<NamedRows, BindFault>
+    ensures { Gives (rules.finished core) result }
+{
+    let mut core = core;
+    let calls = mem::replace(&mut core.selected.outputs.calls, Items::new(alloc));
+    let all = gather(alloc, calls)?;
+    named_rows(alloc, core, all)
+}
