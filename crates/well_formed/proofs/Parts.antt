@@ -9,7 +9,7 @@ use Rattle.bound_tree.specs.declared.select.BoundSource.{BoundSource}
 use Rattle.bound_tree.specs.declared.select.Conjunct.{Conjunct}
 use Rattle.bound_tree.specs.declared.select.SourceRows.{SourceRows}
 use Rattle.bound_tree.specs.declared.select.BoundRows.TheOpen.{BoundCore-F, BoundRows-F, BoundSelect-F, BoundSource-F, Conjunct-F, SourceRows-F}
-use Rattle.bound_tree.specs.declared.select.BoundRows.TheFolds.{every-BoundRows, every-Conjunct, every-SourceRows, every-BoundCore, every-BoundSelect, every-BoundSource, every_here-BoundRows, every_here-Conjunct, every_here-SourceRows, every_here-BoundCore, every_here-BoundSelect, every_here-BoundSource, every_held-BoundRows, every_held-Conjunct, every_held-SourceRows, every_held-BoundCore, every_held-BoundSelect, every_held-BoundSource, every_made-BoundRows, every_made-Conjunct, every_made-SourceRows, every_made-BoundCore, every_made-BoundSelect, every_made-BoundSource, map-BoundRows, map-Conjunct, map-SourceRows, map-BoundCore, map-BoundSelect, map-BoundSource, ind-BoundRows, ind-BoundSelect}
+use Rattle.bound_tree.specs.declared.select.BoundRows.TheFolds.{every-BoundRows, every-Conjunct, every-SourceRows, every-BoundCore, every-BoundSelect, every-BoundSource, every_here-BoundRows, every_here-Conjunct, every_here-SourceRows, every_here-BoundCore, every_here-BoundSelect, every_here-BoundSource, every_held-BoundRows, every_held-Conjunct, every_held-SourceRows, every_held-BoundCore, every_held-BoundSelect, every_held-BoundSource, every_made-BoundRows, every_made-Conjunct, every_made-SourceRows, every_made-BoundCore, every_made-BoundSelect, every_made-BoundSource, map-BoundRows, map-Conjunct, map-SourceRows, map-BoundCore, map-BoundSelect, map-BoundSource, ind-BoundSelect, ind-BoundSource}
 use Rattle.bound_tree.specs.declared.select.BoundRows.TheViews.{out-BoundRows, out-Conjunct, out-SourceRows, out-BoundCore, out-BoundSelect, out-BoundSource, roll-BoundRows, roll-Conjunct, roll-SourceRows, roll-BoundCore, roll-BoundSelect, roll-BoundSource, out-roll-BoundRows, out-roll-Conjunct, out-roll-SourceRows, out-roll-BoundCore, out-roll-BoundSelect, out-roll-BoundSource}
 
 -- items beside their facts
@@ -288,8 +288,8 @@ module _ (N1 : BoundRows-F BoundRows Conjunct SourceRows BoundCore BoundSelect B
         let held = from_held (roll-BoundSource x) x every (out-roll-BoundSource x) in
         by_from x (from_here (roll-BoundSource x) x every (out-roll-BoundSource x)) held (from_brought x (subst (InFrom RowsBrings PartBrings InputBrings CoreBrings WholeBrings FromBrings) is (from_facts RowsBrings PartBrings InputBrings CoreBrings WholeBrings FromBrings y)) held)
 
-    pub rows_bring : (x : BoundRows) → RowsBrings x
-    rows_bring = ind-BoundRows RowsBrings PartBrings InputBrings CoreBrings WholeBrings FromBrings rows_step part_step input_step core_step whole_step from_step
-
     pub whole_brings : (x : BoundSelect) → WholeBrings x
     whole_brings = ind-BoundSelect RowsBrings PartBrings InputBrings CoreBrings WholeBrings FromBrings rows_step part_step input_step core_step whole_step from_step
+
+    pub from_brings : (x : BoundSource) → FromBrings x
+    from_brings = ind-BoundSource RowsBrings PartBrings InputBrings CoreBrings WholeBrings FromBrings rows_step part_step input_step core_step whole_step from_step
