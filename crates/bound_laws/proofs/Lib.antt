@@ -1,0 +1,4 @@
+pub mod ColumnLemmas
+pub mod WidthLemmas
+pub mod PlannableLemmas
+pub mod NumberedLemmas

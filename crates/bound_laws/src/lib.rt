@@ -1,0 +1,6 @@
+//! Laws of well-formed statements.
+#![tactic(auto)]
+
+mod laws;
+
+pub use laws::{well_formed_selects_are_numbered, well_formed_selects_are_plannable};

@@ -1,0 +1,9 @@
+pub mod Given
+pub mod Exprs
+pub mod Names
+pub mod Aggregates
+pub mod From
+pub mod Cores
+pub mod Rows
+pub mod Statements
+pub mod Worked
