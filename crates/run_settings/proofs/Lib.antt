@@ -1,0 +1,4 @@
+pub mod Cuts
+pub mod Fit
+pub mod Front
+pub mod Sums
