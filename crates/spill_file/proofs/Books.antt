@@ -1,5 +1,5 @@
 -- What becomes of the places in a lane's hand.
-use Rattle.std.proofs.Common.{⊎_elim, ◌⊎◌, ◌≡◌, ◌≢◌, ℕ, ◌+◌, ◌<◌, ◌≤◌, List, [], ◌∷◌, ◌++◌, length, refl, sym, ap, ◌∙◌, subst, arith, Option, Some, None, inl, inr}
+use Rattle.std.proofs.Common.{⊎_elim, ◌≡◌, ◌≢◌, ℕ, ◌+◌, ◌<◌, List, [], ◌∷◌, ◌++◌, length, refl, sym, ap, ◌∙◌, subst, arith, Option, Some, None, inl, inr}
 use Rattle.std.specs.Prelude.{◌-◌, ◌^◌, Bool, true, false, min, slice_get, nat_lt, if◌then◌else◌}
 use Rattle.std.specs.Option.{option_or}
 use Rattle.std.proofs.lemmas.Bool.{ltb-true}
@@ -14,6 +14,13 @@ book lane free end = record { lane = lane; free = free; end = end }
 
 not_within : {A : Type 0} (xs : List A) (x : A) → slice_get xs (length xs) ≡ Some x → ⊥
 not_within xs x is = let a = slice_get_within xs (length xs) x is in omega (arith, a)
+
+-- the place given back last is the next
+last_free : (lane end : ℕ) (xs : List Place) (p : Place) → next_place (book lane (xs ++ p ∷ []) end) ≡ Some p
+last_free lane end xs p =
+    let long : length (xs ++ p ∷ []) - 1 ≡ length xs = omega (arith, length-append xs (p ∷ [])) in
+    let there : slice_get (xs ++ p ∷ []) (length (xs ++ p ∷ []) - 1) ≡ Some p = ap (slice_get (xs ++ p ∷ [])) long ∙ get_end xs p in
+    ap (λ o. option_or o (if nat_lt end most_places then Some (place_at (book lane (xs ++ p ∷ []) end)) else None)) there
 
 -- the place given back last is taken
 module _ (lane : ℕ) (xs : List Place) (p : Place) (end : ℕ) where
@@ -72,6 +79,7 @@ module _ (lane : ℕ) (xs : List Place) (p : Place) (end : ℕ) where
   pub gives : GivesPlace p less more
   gives = record {
     there = inl (length xs, get_end xs p);
+    next = last_free lane end xs p;
     others = λ q other. (hand_less q other, hand_more q);
     sound = λ s out. record { once = once_more s out; before = before_more s out };
   }
@@ -101,12 +109,6 @@ module _ (lane : ℕ) (end : ℕ) where
     others = λ q other. (shorter q, longer q other);
     sound = λ s. record { once = λ i j q a b. absurd (cc a); before = λ q f b. none_free (end + 1) q f };
   }
-
-last_free : (lane end : ℕ) (xs : List Place) (p : Place) → next_place (book lane (xs ++ p ∷ []) end) ≡ Some p
-last_free lane end xs p =
-    let long : length (xs ++ p ∷ []) - 1 ≡ length xs = omega (arith, length-append xs (p ∷ [])) in
-    let there : slice_get (xs ++ p ∷ []) (length (xs ++ p ∷ []) - 1) ≡ Some p = ap (slice_get (xs ++ p ∷ [])) long ∙ get_end xs p in
-    ap (λ o. option_or o (if nat_lt end most_places then Some (place_at (book lane (xs ++ p ∷ []) end)) else None)) there
 
 -- what a lane takes where a place was given back
 pub took_free : (lane end : ℕ) (all xs : List Place) (x : Place) → all ≡ xs ++ x ∷ [] → (p : Place) → next_place (book lane all end) ≡ Some p → TakesPlace p (book lane all end) (book lane xs end)

@@ -1,5 +1,5 @@
 -- Images out of a lane's hand stay.
-use Rattle.std.proofs.Common.{◌≡◌, refl, sym, subst, Option, Some, None}
+use Rattle.std.proofs.Common.{◌≡◌, refl, sym, subst, Some, None}
 use Rattle.spill_file.specs.declared.place.Place.{Place}
 use Rattle.spill_file.specs.Places.{PlaceBook, InHand, next_place}
 use Rattle.spill_file.specs.Images.{Images, SameBut, SameOut}

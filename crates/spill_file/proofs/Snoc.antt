@@ -1,5 +1,5 @@
 -- A list with one item more at its end, by place.
-use Rattle.std.proofs.Common.{⊎_elim, ◌⊎◌, ◌≡◌, ℕ, ◌+◌, ◌<◌, List, [], ◌∷◌, ◌++◌, length, suc, zero, refl, sym, ap, ◌∙◌, arith, Option, Some, None, inl, inr}
+use Rattle.std.proofs.Common.{⊎_elim, ◌⊎◌, ◌≡◌, ℕ, List, [], ◌∷◌, ◌++◌, length, suc, zero, refl, ap, Some, inl, inr}
 use Rattle.std.specs.Prelude.{slice_get}
 
 pub get_front : {A : Type 0} (xs : List A) (x : A) (i : ℕ) (y : A) → slice_get xs i ≡ Some y → slice_get (xs ++ x ∷ []) i ≡ Some y

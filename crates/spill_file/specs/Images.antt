@@ -1,5 +1,5 @@
 -- The images that lie at places, where they are told.
-use Rattle.std.specs.Prelude.{ℕ, ◌≡◌, ◌≢◌, Bool, IsTrue, Option, Some, None, List, ⊤}
+use Rattle.std.specs.Prelude.{ℕ, ◌≡◌, ◌≢◌, Option, Some, None, List, ⊤}
 use Rattle.spill_file.specs.declared.place.Place.{Place}
 use Rattle.spill_file.specs.Places.{PlaceBook, InHand}
 

@@ -37,12 +37,6 @@ pub record TakesPlace (p : Place) (old new : PlaceBook) : Type 0 where
   pub others : (q : Place) → q ≢ p → InHand new q ↔ InHand old q
   pub sound : IsSound old → IsSound new
 
--- A place came into the lane's hand, and no other did or went.
-pub record GivesPlace (p : Place) (old new : PlaceBook) : Type 0 where
-  pub there : InHand new p
-  pub others : (q : Place) → q ≢ p → InHand new q ↔ InHand old q
-  pub sound : IsSound old → (InHand old p → ⊥) → IsSound new
-
 -- a new lane has all places of its own file in its hand, and no others
 abbrev pub IsNewBook : ℕ → PlaceBook → Type 0
 IsNewBook lane book = IsSound book × ((p : Place) → InHand book p ↔ (p.lane ≡ lane))
@@ -57,3 +51,10 @@ place_at book = record { lane = book.lane; number = book.end }
 -- the place that is written next: the one given back last, or else the one at the end of the lane's own file
 abbrev pub next_place : PlaceBook → Option Place
 next_place book = option_or (slice_get book.free (length book.free - 1)) (if nat_lt book.end most_places then Some (place_at book) else None)
+
+-- A place came into the lane's hand, where it is written next, and no other did or went.
+pub record GivesPlace (p : Place) (old new : PlaceBook) : Type 0 where
+  pub there : InHand new p
+  pub next : next_place new ≡ Some p
+  pub others : (q : Place) → q ≢ p → InHand new q ↔ InHand old q
+  pub sound : IsSound old → (InHand old p → ⊥) → IsSound new

@@ -1,8 +1,8 @@
 //! A lane over images at places.
-ghost use Rattle.std.specs.Prelude.{◌≡◌, ◌≢◌, ◌⊎◌, Err, None, IfOk, OnOk, OnErr, is_err};
+ghost use Rattle.std.specs.Prelude.{◌≡◌, ◌≢◌, ◌⊎◌, Err, None, Some, IfOk, OnOk, OnErr, is_err};
 ghost use Rattle.ooc_io.specs.Counts.{HasCause, faults_after};
 ghost use Rattle.ooc_io.specs.Lanes.{HasLaneCause, CountsWrites, is_failure};
-ghost use Rattle.spill_file.specs.Places.{place_of, TakesPlace, GivesPlace};
+ghost use Rattle.spill_file.specs.Places.{place_of, next_place, IsNewBook, TakesPlace, GivesPlace};
 ghost use Rattle.spill_file.specs.Images.{LiesAt, SameOut};
 ghost use Rattle.spill_file.specs.Lane.{write_count, fault_count, book_of, store_of};
 
@@ -23,10 +23,12 @@ pub struct FileLane<S: ImageStore> {
 }
 
 impl<S: ImageStore> FileLane<S> {
-    /// A lane over a store. It has written nothing.
+    /// A lane over a store. It has written nothing, and the places in its hand are those of the store's own file.
     pub fn new_lane(alloc: Global, store: S) -> FileLane<S>
         ensures writes { write_count result ≡ 0 }
         ensures faults { fault_count result ≡ 0 }
+        ensures places { IsNewBook (S.number store) (book_of result) }
+        ensures store { store_of result ≡ store }
     {
         let places = Places::new_places(alloc, store.lane());
         FileLane {
@@ -64,7 +66,7 @@ impl<S: ImageStore> SpillLane for FileLane<S> {
 
     ghost faults = { λ l. fault_count l };
 
-    // It takes no memory, and its ticket keeps nothing. The image goes to a place that was in the lane's hand, and the
+    // It takes no memory, and its ticket keeps nothing. The image goes to the next place of the lane's hand, and the
     // images at all others stay, be it that the write fails.
     fn write(&mut self, image: &[u8]) -> Result<Ticket, LaneFault>
         ensures writes { CountsWrites (write_count self.old) (write_count self.new) result }
@@ -72,6 +74,7 @@ impl<S: ImageStore> SpillLane for FileLane<S> {
         ensures faults { fault_count self.new ≡ faults_after (is_failure result) (fault_count self.old) }
         ensures quiet { IfOk result (λ ticket. ticket.kept ≡ None) }
         ensures memory { result ≢ Err LaneFault.OutOfMemory }
+        ensures next { IfOk result (λ ticket. next_place (book_of self.old) ≡ Some (place_of ticket)) }
         ensures takes { IfOk result (λ ticket. TakesPlace (place_of ticket) (book_of self.old) (book_of self.new)) }
         ensures refused { OnErr result (book_of self.new ≡ book_of self.old) }
         ensures image { IfOk result (λ ticket. LiesAt (S.images (store_of self.new)) (place_of ticket) image.now) }
@@ -104,7 +107,8 @@ impl<S: ImageStore> SpillLane for FileLane<S> {
         Err(SpillFailed)
     }
 
-    // The ticket's place comes into the lane's hand, unless memory runs out for the list.
+    // The ticket's place comes into the lane's hand, and is the next to be written to, unless memory runs out for the
+    // list.
     fn free(&mut self, ticket: Ticket)
         ensures writes { write_count self.new ≡ write_count self.old }
         ensures faults { fault_count self.new ≡ fault_count self.old }

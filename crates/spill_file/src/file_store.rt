@@ -72,6 +72,8 @@ where
 {
     ghost images = { λ _. None };
 
+    ghost number = { λ s. s.lane };
+
     fn lane(&self) -> u32 {
         self.lane
     }

@@ -1,5 +1,5 @@
 //! Images at places.
-ghost use Rattle.std.specs.Prelude.{◌≡◌, IsTrue};
+ghost use Rattle.std.specs.Prelude.{◌≡◌, ℕ, IsTrue};
 ghost use Rattle.spill_file.specs.Images.{Images, LiesAt, SameBut};
 
 use crate::place::Place;
@@ -10,7 +10,11 @@ pub trait ImageStore {
     ghost images: { Self → Images };
 
     /// The number of the lane whose file this store makes.
-    fn lane(&self) -> u32;
+    ghost number: { Self → ℕ };
+
+    /// The number of the lane whose file this store makes.
+    fn lane(&self) -> u32
+        ensures { result ≡ number self.now };
 
     /// Writes an image at a place, and answers whether all of it was written. Nothing else is.
     fn write(&mut self, place: Place, image: &[u8]) -> bool

@@ -1,5 +1,4 @@
-use Rattle.std.proofs.Common.{◌≡◌, ◌∙◌, refl, sym, Some}
-use Rattle.spill_file.specs.Places.{next_place}
+use Rattle.std.proofs.Common.{◌∙◌, refl, sym}
 use Rattle.spill_file.specs.Lane.{book_of, store_of}
 use Rattle.spill_file.proofs.Kept.{same_out, same_all}
 use Rattle.spill_file.proofs.file_lane.FileLaneSpillLane.write.Goals.{in-Some+else-write, in_default}
