@@ -1,4 +1,9 @@
+pub mod Lists
 pub mod ColumnLemmas
-pub mod WidthLemmas
+pub mod RowLemmas
 pub mod PlannableLemmas
 pub mod NumberedLemmas
+pub mod AggregateLemmas
+pub mod ValueRows
+pub mod GroupLemmas
+pub mod CoreLemmas

@@ -25,7 +25,7 @@ use Rattle.well_formed.specs.Rows.{AnyConjunct, AnyInput, IsRowsNode, IsSelectNo
 use Rattle.well_formed.proofs.Parts.{rows_made, part_made, input_made, core_made, whole_made, from_made, whole_brings}
 use Rattle.bound_laws.specs.Meeting.{MeetSchemas}
 use Rattle.bound_laws.proofs.ColumnLemmas.{typed-sure, typed-top}
-use Rattle.bound_laws.proofs.WidthLemmas.{source-wide}
+use Rattle.bound_laws.proofs.RowLemmas.{source-wide}
 
 length-append : {A : Type 0} (xs ys : List A) → length (xs ++ ys) ≡ length xs + length ys
 length-append [] ys = omega arith

@@ -3,4 +3,7 @@
 
 mod laws;
 
-pub use laws::{well_formed_selects_are_numbered, well_formed_selects_are_plannable};
+pub use laws::{
+    rows_have_their_columns_types, well_formed_selects_are_numbered,
+    well_formed_selects_are_plannable,
+};

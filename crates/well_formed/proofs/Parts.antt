@@ -213,12 +213,12 @@ module _ (N1 : BoundRows-F BoundRows Conjunct SourceRows BoundCore BoundSelect B
   -- ---- what the fact of each part brings, part by part
 
   module _ (OfRows : BoundRows → Type 0) (OfPart : Conjunct → Type 0) (OfInput : SourceRows → Type 0) (OfCore : BoundCore → Type 0) (OfWhole : BoundSelect → Type 0) (OfFrom : BoundSource → Type 0)
-    (by_rows : (x : BoundRows-F BoundRows Conjunct SourceRows BoundCore BoundSelect BoundSource) → N1 x → InRows Rows Part Input Core Whole From x → InRows OfRows OfPart OfInput OfCore OfWhole OfFrom x → OfRows (roll-BoundRows x))
-    (by_part : (x : Conjunct-F BoundRows Conjunct SourceRows BoundCore BoundSelect BoundSource) → N2 x → InPart Rows Part Input Core Whole From x → InPart OfRows OfPart OfInput OfCore OfWhole OfFrom x → OfPart (roll-Conjunct x))
-    (by_input : (x : SourceRows-F BoundRows Conjunct SourceRows BoundCore BoundSelect BoundSource) → N3 x → InInput Rows Part Input Core Whole From x → InInput OfRows OfPart OfInput OfCore OfWhole OfFrom x → OfInput (roll-SourceRows x))
-    (by_core : (x : BoundCore-F BoundRows Conjunct SourceRows BoundCore BoundSelect BoundSource) → N4 x → InCore Rows Part Input Core Whole From x → InCore OfRows OfPart OfInput OfCore OfWhole OfFrom x → OfCore (roll-BoundCore x))
-    (by_whole : (x : BoundSelect-F BoundRows Conjunct SourceRows BoundCore BoundSelect BoundSource) → N5 x → InWhole Rows Part Input Core Whole From x → InWhole OfRows OfPart OfInput OfCore OfWhole OfFrom x → OfWhole (roll-BoundSelect x))
-    (by_from : (x : BoundSource-F BoundRows Conjunct SourceRows BoundCore BoundSelect BoundSource) → N6 x → InFrom Rows Part Input Core Whole From x → InFrom OfRows OfPart OfInput OfCore OfWhole OfFrom x → OfFrom (roll-BoundSource x)) where
+      (by_rows : (x : BoundRows-F BoundRows Conjunct SourceRows BoundCore BoundSelect BoundSource) → N1 x → InRows Rows Part Input Core Whole From x → InRows OfRows OfPart OfInput OfCore OfWhole OfFrom x → OfRows (roll-BoundRows x))
+      (by_part : (x : Conjunct-F BoundRows Conjunct SourceRows BoundCore BoundSelect BoundSource) → N2 x → InPart Rows Part Input Core Whole From x → InPart OfRows OfPart OfInput OfCore OfWhole OfFrom x → OfPart (roll-Conjunct x))
+      (by_input : (x : SourceRows-F BoundRows Conjunct SourceRows BoundCore BoundSelect BoundSource) → N3 x → InInput Rows Part Input Core Whole From x → InInput OfRows OfPart OfInput OfCore OfWhole OfFrom x → OfInput (roll-SourceRows x))
+      (by_core : (x : BoundCore-F BoundRows Conjunct SourceRows BoundCore BoundSelect BoundSource) → N4 x → InCore Rows Part Input Core Whole From x → InCore OfRows OfPart OfInput OfCore OfWhole OfFrom x → OfCore (roll-BoundCore x))
+      (by_whole : (x : BoundSelect-F BoundRows Conjunct SourceRows BoundCore BoundSelect BoundSource) → N5 x → InWhole Rows Part Input Core Whole From x → InWhole OfRows OfPart OfInput OfCore OfWhole OfFrom x → OfWhole (roll-BoundSelect x))
+      (by_from : (x : BoundSource-F BoundRows Conjunct SourceRows BoundCore BoundSelect BoundSource) → N6 x → InFrom Rows Part Input Core Whole From x → InFrom OfRows OfPart OfInput OfCore OfWhole OfFrom x → OfFrom (roll-BoundSource x)) where
     abbrev RowsBrings : BoundRows → Type 0
     RowsBrings x = Rows x → OfRows x
 
