@@ -1,6 +1,5 @@
 //! Which columns a file can be read into.
-ghost use Rattle.std.specs.Prelude.{◌≡◌};
-ghost use Rattle.std.specs.Bool.{OnTrue};
+ghost use Rattle.std.specs.Prelude.{◌≡◌, ◌↔◌, IsTrue};
 ghost use Rattle.csv_records.specs.Table.{IsDelimiter};
 ghost use Rattle.csv_load.specs.Values as spec;
 
@@ -30,7 +29,7 @@ pub fn are_typed(columns: &[Column]) -> bool
 
 /// Whether a byte can stand between fields: an ASCII byte, and no double quote, LF or CR.
 pub fn is_delimiter(byte: u8) -> bool
-    ensures { OnTrue result (IsDelimiter byte) }
+    ensures { IsTrue result ↔ IsDelimiter byte }
 {
     byte < 128 && byte != b'"' && byte != b'\n' && byte != b'\r'
 }
