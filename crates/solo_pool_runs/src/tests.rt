@@ -5,3 +5,4 @@ mod freed;
 mod images;
 mod lanes;
 mod orders;
+mod reused;
