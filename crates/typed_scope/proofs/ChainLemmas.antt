@@ -5,7 +5,7 @@ use Rattle.std.specs.List.{AllByRecursion}
 use Rattle.std.proofs.lemmas.Bool.{and_parts}
 use Rattle.ooc_types.specs.declared.schema.SqlType.{SqlType}
 use Rattle.ooc_types.specs.declared.schema.SqlType.TheVariants.{Boolean, Varchar}
-use Rattle.ooc_types.specs.declared.refusal.RefusalKind.{RefusalKind}
+use Rattle.ooc_types.specs.declared.refusal.RefusalKind.TheVariants.{TypeMismatch}
 use Rattle.sql_expr.specs.declared.families.Family.{Family}
 use Rattle.sql_expr.specs.declared.tree.ChainSign.{ChainSign}
 use Rattle.sql_expr.specs.declared.tree.Expr.{Expr}
@@ -15,7 +15,7 @@ use Rattle.sql_expr.specs.declared.tree.Expr.TheVariants as tree
 use Rattle.sql_expr.specs.declared.tree.Expr.TheVariants.{rolls-Chain, rolls-Every, rolls-Either}
 use Rattle.sql_expr.specs.declared.tree.Expr.TheViews.{out-Expr, out-roll-Expr}
 use Rattle.sql_expr.specs.Kinds.{kind_of, last_kind}
-use Rattle.sql_expr.specs.Operations.{IsLinked, IsProper, result_type}
+use Rattle.sql_expr.specs.Operations.{IsLinked, IsProper, mismatch, result_type}
 use Rattle.sql_expr.specs.Typing.{AreLinks}
 use Rattle.sql_expr.specs.Values.{HasShortTexts, IsShortNode}
 use Rattle.sql_expr.proofs.Every.{every_chain, every_every, every_either}
@@ -61,9 +61,9 @@ all-behind P (y ∷ xs) x all h = (all.0, all-behind P xs x all.1 h)
 linked-out : (place : ℕ) (sign : ChainSign) (k l kind : SqlType) → linked_type place sign k l ≡ Ok kind → result_type sign k l ≡ Some kind
 linked-out place sign k l kind is = by (result_type sign k l) is
   where
-    by : (found : Option SqlType) → or_refuse found place _ ≡ Ok kind → found ≡ Some kind
+    by : (found : Option SqlType) → or_refuse found place (mismatch sign k l) ≡ Ok kind → found ≡ Some kind
     by None is = cc
-    by (Some k) is = let e : k ≡ kind = cc in ap Some e
+    by (Some gives) is = let e : gives ≡ kind = cc in ap Some e
 
 module _ (seen : Seen) (width limit : ℕ) where
   abbrev Typed : Part → Type 0
@@ -128,7 +128,7 @@ module _ (seen : Seen) (width limit : ℕ) where
       by (left_is && right_is) refl is
     where
       by : (b : Bool) → (is_boolean conditions.kind && is_boolean (kind_of right.tree)) ≡ b
-          → unless b place _ (record { list = conditions.list ++ right.tree ∷ []; kind = Boolean; bare = rules.first_of conditions.bare right.bare; calls = conditions.calls ++ right.calls }) ≡ Ok more → IsTypedConditions seen width limit more
+          → unless b place TypeMismatch (record { list = conditions.list ++ right.tree ∷ []; kind = Boolean; bare = rules.first_of conditions.bare right.bare; calls = conditions.calls ++ right.calls }) ≡ Ok more → IsTypedConditions seen width limit more
       by false e is = cc
       by true e is =
           let both = and_parts (is_boolean conditions.kind) (is_boolean (kind_of right.tree)) e in

@@ -6,7 +6,7 @@ use Rattle.std.specs.List.{AllByRecursion}
 use Rattle.std.proofs.lemmas.Bool.{and_parts, leb-true, ltb-true}
 use Rattle.std.proofs.lemmas.Int.{ints}
 use Rattle.date_values.specs.DateText.{day_text}
-use Rattle.ooc_types.specs.declared.refusal.RefusalKind.{RefusalKind}
+use Rattle.ooc_types.specs.declared.refusal.RefusalKind.TheVariants.{AggregateHere, SumTooWide, TextTooLong}
 use Rattle.ooc_types.specs.declared.schema.SqlType.{SqlType}
 use Rattle.ooc_types.specs.declared.schema.SqlType.TheVariants.{Boolean, Integer, BigInt, HugeInt, Decimal, Date, Varchar}
 use Rattle.ooc_types.specs.declared.value.Value.{Value}
@@ -33,8 +33,6 @@ use Rattle.std.specs.Str.Parse.{digits_value}
 use Rattle.bound_tree.specs.declared.kinds.AggregateKind.{AggregateKind}
 use Rattle.sql_scope.specs.declared.call.Function.{Function}
 use Rattle.sql_scope.specs.declared.call.Function.TheVariants.{Count, Sum, Least, Greatest}
-use Rattle.sql_scope.specs.declared.names.Found.{Found}
-use Rattle.sql_scope.specs.declared.names.Found.TheVariants.{Nothing, One, Several}
 use Rattle.sql_scope.specs.declared.part.Call.{Call}
 use Rattle.sql_scope.specs.declared.part.Part.{Part}
 use Rattle.sql_scope.specs.declared.scope.ScopeColumn.{ScopeColumn}
@@ -43,7 +41,7 @@ use Rattle.sql_scope.specs.Calls.{aggregate, count_type, distinct_call, most_sum
 use Rattle.sql_scope.specs.Dates.{all_days, day_from, day_of}
 use Rattle.sql_scope.specs.Literals as rules
 use Rattle.sql_scope.specs.Parts.{column, column_part, constant_part, literal, part_of}
-use Rattle.sql_scope.specs.Scopes.{Spot, View, found, in_source, is_in, is_named, is_of, kinds, named_column, only, spots}
+use Rattle.sql_scope.specs.Scopes.{Spot, View, first_token, found, in_source, is_in, is_named, is_of, kinds, named_column, only, spots}
 use Rattle.sql_scope.specs.Texts.{folded_at, text_at}
 use Rattle.typed_scope.specs.Typed.{IsPartOver, IsTypedNodeOver, IsTypedOver, seen_of}
 use Rattle.typed_scope.proofs.PartLemmas.{answered, asked}
@@ -79,16 +77,6 @@ all-stand test scope =
     let columns = map (λ (c : ScopeColumn). c.kind) scope in
     spots-stand test 0 scope columns (λ k kind is. subst (λ (n : ℕ). slice_get columns n ≡ Some kind) (let e : k ≡ 0 + k = omega arith in e) is)
 
-abbrev IsFoundIn : List SqlType → Found → Type 0
-IsFoundIn columns Nothing = ⊤
-IsFoundIn columns (One place kind) = slice_get columns place ≡ Some kind
-IsFoundIn columns Several = ⊤
-
-found-in : (columns : List SqlType) (list : List Spot) → AllByRecursion (Stands columns) list → IsFoundIn columns (found list)
-found-in columns [] all = tt
-found-in columns (spot ∷ []) all = all.0
-found-in columns (spot ∷ other ∷ more) all = tt
-
 -- a tree that is a column which is there
 record IsColumnOf (columns : List SqlType) (tree : Expr) : Type 0 where
   place : ℕ
@@ -96,24 +84,23 @@ record IsColumnOf (columns : List SqlType) (tree : Expr) : Type 0 where
   is : Column place kind ≡ tree
   stands : slice_get columns place ≡ Some kind
 
-only-column : (columns : List SqlType) (place : ℕ) (f : Found) (tree : Expr) → IsFoundIn columns f → only place f ≡ Ok tree → IsColumnOf columns tree
-only-column columns place Nothing tree there is = cc
-only-column columns place (One at kind) tree there is = record { place = at; kind = kind; is = (let e : Column at kind ≡ tree = cc in e); stands = there }
-only-column columns place Several tree there is = cc
+only-column : (columns : List SqlType) (place : ℕ) (list : List Spot) (tree : Expr) → AllByRecursion (Stands columns) list → only place (found list) ≡ Ok tree → IsColumnOf columns tree
+only-column columns place [] tree all is = cc
+only-column columns place (spot ∷ []) tree all is = record { place = spot.place; kind = spot.kind; is = (let e : Column spot.place spot.kind ≡ tree = cc in e); stands = all.0 }
+only-column columns place (spot ∷ other ∷ more) tree all is = cc
 
-source-column : (columns : List SqlType) (place : ℕ) (f g : Found) (tree : Expr) → IsFoundIn columns g → in_source place f g ≡ Ok tree → IsColumnOf columns tree
-source-column columns place Nothing g tree there is = cc
-source-column columns place (One at kind) g tree there is = only-column columns place g tree there is
-source-column columns place Several g tree there is = only-column columns place g tree there is
+source-column : (columns : List SqlType) (place : ℕ) (sources list : List Spot) (tree : Expr) → AllByRecursion (Stands columns) list → in_source place (found sources) (found list) ≡ Ok tree → IsColumnOf columns tree
+source-column columns place [] list tree all is = cc
+source-column columns place (spot ∷ []) list tree all is = only-column columns place list tree all is
+source-column columns place (spot ∷ other ∷ more) list tree all is = only-column columns place list tree all is
 
 named-column : (view : View) (source : Option Span) (name : Span) (tree : Expr) → named_column view source name ≡ Ok tree → IsColumnOf (kinds view) tree
 named-column view None name tree is =
     let test = is_named (folded_at view.script name) in
-    only-column (kinds view) name.start (found (spots test 0 view.columns)) tree (found-in (kinds view) (spots test 0 view.columns) (all-stand test view.columns)) is
+    only-column (kinds view) name.start (spots test 0 view.columns) tree (all-stand test view.columns) is
 named-column view (Some source) name tree is =
     let test = is_in (folded_at view.script source) (folded_at view.script name) in
-    source-column (kinds view) source.start (found (spots (is_of (folded_at view.script source)) 0 view.columns)) (found (spots test 0 view.columns)) tree
-    (found-in (kinds view) (spots test 0 view.columns) (all-stand test view.columns)) is
+    source-column (kinds view) source.start (spots (is_of (folded_at view.script source)) 0 view.columns) (spots test 0 view.columns) tree (all-stand test view.columns) is
 
 proper-at : (columns : List SqlType) (place : ℕ) (kind : SqlType) → AllByRecursion IsProper columns → slice_get columns place ≡ Some kind → IsProper kind
 proper-at [] place kind all is = cc
@@ -125,7 +112,7 @@ column-typed calls limit view written part proper is =
     let a = first-answer (named_column view written.source written.name) (column_part view written) part is in
     let c = named-column view written.source written.name a.0 a.1.0 in
     let seen = seen_of (kinds view) calls in
-    answered (IsPartOver (kinds view) calls limit) (part_of view a.0 _ []) part a.1.1 (record {
+    answered (IsPartOver (kinds view) calls limit) (part_of view a.0 (Some (first_token written.source written.name)) []) part a.1.1 (record {
       typed = λ all. subst (IsTypedOver seen) c.is (every_column (IsTypedNodeOver seen) c.place c.kind (inl c.stands));
       short = subst (HasShortTexts limit) c.is (every_column (IsShortNode limit) c.place c.kind tt);
       proper = subst (λ (e : Expr). IsProper (kind_of e)) c.is (subst IsProper (sym (column-kind c.place c.kind)) (proper-at (kinds view) c.place c.kind proper c.stands));
@@ -154,7 +141,7 @@ integer-literal n small = go (nat_lt n (2 ^ 31)) (nat_lt n (2 ^ 63)) refl refl
         (subst (λ (k : SqlType). IsLiteral k (Number (pos n) 0)) (sym is) (refl, is), subst IsProper (sym is) tt)
     go false false e f =
         let is : integer_type n ≡ HugeInt = ap (λ (t : Bool). cond t Integer (cond (nat_lt n (2 ^ 63)) BigInt HugeInt)) e ∙ ap (λ (t : Bool). cond t BigInt HugeInt) f in
-        (subst (λ (k : SqlType). IsLiteral k (Number (pos n) 0)) (sym is) (refl, (is, small)), subst IsProper (sym is) tt)
+        (subst (λ (k : SqlType). IsLiteral k (Number (pos n) 0)) (sym is) (refl, is, small), subst IsProper (sym is) tt)
 
 -- days from the first on are days of the calendar
 day-there : (more days : ℕ) (text : List ℕ) (day : ℤ) → days + more ≤ all_days → day_from more days text ≡ Some day → IsDay day
@@ -185,12 +172,12 @@ module _ (columns : List SqlType) (calls : List Call) (view : View) (part : Part
       constant-typed columns calls view.limit view (Number d.digits d.scale) (Decimal d.width d.scale) part
       (subst (λ (z : ℤ). IsLiteral (Decimal d.width d.scale) (Number z d.scale)) (sym p.written)
       (refl, record { some_digit = p.some_digit; places = p.places; small = p.small; most = p.most; least = p.least }))
-      tt (p.some_digit, (p.most, p.places)) is
+      tt (p.some_digit, p.most, p.places) is
 
   text-of : (place : ℕ) (text : List ℕ) → ((rules.limited view.limit place text >>= (λ (text : List ℕ). Ok (Constant (Text text) Varchar))) >>= constant_part view) ≡ Ok part → IsPartOver columns calls view.limit part
   text-of place text is = by (nat_le (length text) view.limit) refl is
     where
-      by : (b : Bool) → nat_le (length text) view.limit ≡ b → ((unless b place _ text >>= (λ (text : List ℕ). Ok (Constant (Text text) Varchar))) >>= constant_part view) ≡ Ok part → IsPartOver columns calls view.limit part
+      by : (b : Bool) → nat_le (length text) view.limit ≡ b → ((unless b place TextTooLong text >>= (λ (text : List ℕ). Ok (Constant (Text text) Varchar))) >>= constant_part view) ≡ Ok part → IsPartOver columns calls view.limit part
       by false e is = cc
       by true e is = constant-typed columns calls view.limit view (Text text) Varchar part refl (leb-true (length text) view.limit e) tt is
 
@@ -220,7 +207,7 @@ call_part view place kind of result =
 aggregate-typed : (calls : List Call) (limit : ℕ) (view : View) (place : ℕ) (kind : AggregateKind) (of : Option Expr) (result : SqlType) (part : Part) → IsProper result → aggregate view place kind of result ≡ Ok part → IsPartOver (kinds view) calls limit part
 aggregate-typed calls limit view place kind of result part proper is = by view.aggregates is
   where
-    by : (b : Bool) → unless b place _ (call_part view place kind of result) ≡ Ok part → IsPartOver (kinds view) calls limit part
+    by : (b : Bool) → unless b place AggregateHere (call_part view place kind of result) ≡ Ok part → IsPartOver (kinds view) calls limit part
     by false is = cc
     by true is = answered (IsPartOver (kinds view) calls limit) (call_part view place kind of result) part is (record {
       typed = λ all. every_column (IsTypedNodeOver (seen_of (kinds view) calls)) (length view.columns + place) result
@@ -244,9 +231,9 @@ sum-proper place Date result proper is = cc
 sum-proper place Varchar result proper is = cc
 sum-proper place (Decimal w s) result proper is = by (nat_le w most_summed) is
   where
-    by : (b : Bool) → unless b place _ (Decimal 38 s) ≡ Ok result → IsProper result
+    by : (b : Bool) → unless b place SumTooWide (Decimal 38 s) ≡ Ok result → IsProper result
     by false is = cc
-    by true is = let e : Decimal 38 s ≡ result = cc in let most = proper.1.0 in let less = proper.1.1 in subst IsProper e (omega arith, (omega arith, omega arith))
+    by true is = let e : Decimal 38 s ≡ result = cc in let most = proper.1 in let less = proper.2 in subst IsProper e (omega arith, omega arith, omega arith)
 
 value-proper : (place : ℕ) (function : Function) (kind result : SqlType) → IsProper kind → value_type place function kind ≡ Ok result → IsProper result
 value-proper place Count kind result proper is = let e : BigInt ≡ result = cc in subst IsProper e tt
