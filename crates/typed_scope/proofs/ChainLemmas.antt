@@ -1,12 +1,11 @@
 -- Chains and conditions of typed operands are typed.
-use Rattle.std.proofs.Common.{◌≡◌, ℕ, ◌+◌, Bool, true, false, cond, ◌&&◌, List, [], ◌∷◌, ◌++◌, map, refl, sym, ap, ◌∙◌, subst, Ok, Err, Option}
-use Rattle.std.specs.Prelude.{Some, None, ⊤}
+use Rattle.std.proofs.Common.{◌≡◌, ℕ, ◌+◌, Bool, true, false, ◌&&◌, List, [], ◌∷◌, ◌++◌, map, refl, sym, ap, ◌∙◌, subst, Ok, Option}
+use Rattle.std.specs.Prelude.{Some, None}
 use Rattle.std.specs.List.{AllByRecursion}
 use Rattle.std.proofs.lemmas.Bool.{and_parts}
 use Rattle.ooc_types.specs.declared.schema.SqlType.{SqlType}
-use Rattle.ooc_types.specs.declared.schema.SqlType.TheVariants.{Boolean, Varchar}
+use Rattle.ooc_types.specs.declared.schema.SqlType.TheVariants.{Boolean}
 use Rattle.ooc_types.specs.declared.refusal.RefusalKind.TheVariants.{TypeMismatch}
-use Rattle.sql_expr.specs.declared.families.Family.{Family}
 use Rattle.sql_expr.specs.declared.tree.ChainSign.{ChainSign}
 use Rattle.sql_expr.specs.declared.tree.Expr.{Expr}
 use Rattle.sql_expr.specs.declared.tree.Link.{Link}
@@ -27,14 +26,14 @@ use Rattle.sql_scope.specs.declared.chain.Chain.{Chain}
 use Rattle.sql_scope.specs.declared.chain.Conditions.{Conditions}
 use Rattle.sql_scope.specs.declared.part.Call.{Call}
 use Rattle.sql_scope.specs.declared.part.Part.{Part}
-use Rattle.sql_scope.specs.Answer.{Answer, ◌>>=◌, or_refuse, unless}
+use Rattle.sql_scope.specs.Answer.{or_refuse, unless}
 use Rattle.sql_scope.specs.Operations.{is_boolean, linked_type}
 use Rattle.sql_scope.specs.Parts as rules
 use Rattle.sql_scope.specs.Scopes.{View}
 use Rattle.sql_scope.specs.Trees.{chain_sign}
-use Rattle.typed_scope.specs.Typed.{AreSeen, IsTypedChain, IsTypedConditions, IsSettled, IsTypedNodeOver, IsTypedOver, IsTypedPart, Seen}
+use Rattle.typed_scope.specs.Typed.{IsTypedChain, IsTypedConditions, IsSettled, IsTypedNodeOver, IsTypedOver, IsTypedPart, Seen}
 use Rattle.typed_scope.proofs.LeafLemmas.{first-answer}
-use Rattle.typed_scope.proofs.PartLemmas.{answered, asked, back, boolean-out, front, truth-kind}
+use Rattle.typed_scope.proofs.PartLemmas.{answered, back, boolean-out, front, truth-kind}
 
 -- ---- one more behind a list
 
@@ -76,7 +75,13 @@ module _ (seen : Seen) (width limit : ℕ) where
 
   pub begun-typed : (first : Part) → Typed first → IsTypedChain seen width limit (rules.begun first)
   begun-typed first typed = record {
-    first = typed.typed; links = λ calls. tt; linked = tt; last = refl; proper = typed.proper; short = typed.short; short_links = tt;
+    first = typed.typed;
+    links = λ calls. tt;
+    linked = tt;
+    last = refl;
+    proper = typed.proper;
+    short = typed.short;
+    short_links = tt;
   }
 
   pub linked-typed : (place : ℕ) (sign : WrittenSign) (chain : Chain) (right : Part) (more : Chain) → IsTypedChain seen width limit chain → Typed right → rules.linked place sign chain right ≡ Ok more → IsTypedChain seen width limit more
@@ -103,7 +108,7 @@ module _ (seen : Seen) (width limit : ℕ) where
     typed = λ seen_calls. every_chain (IsTypedNodeOver seen) first (link ∷ links) (typed seen_calls) (all seen_calls) (linked_left link.sign (kind_of first) (kind_of link.right) link.kind linked.0, linked);
     short = every_chain (IsShortNode limit) first (link ∷ links) short shorts tt;
     proper = subst IsProper (last ∙ sym (chain_kind (tree.Chain first (link ∷ links)) first (link ∷ links)
-      (ap out-Expr (sym (rolls-Chain first (link ∷ links))) ∙ out-roll-Expr (Expr-F.Chain first (link ∷ links))))) proper;
+        (ap out-Expr (sym (rolls-Chain first (link ∷ links))) ∙ out-roll-Expr (Expr-F.Chain first (link ∷ links))))) proper;
   }
 
   pub ended-typed : (view : View) (chain : Chain) (part : Part) → IsTypedChain seen width limit chain → rules.ended view chain ≡ Ok part → Typed part
@@ -135,7 +140,7 @@ module _ (seen : Seen) (width limit : ℕ) where
           answered (IsTypedConditions seen width limit) (record { list = conditions.list ++ right.tree ∷ []; kind = Boolean; bare = rules.first_of conditions.bare right.bare; calls = conditions.calls ++ right.calls }) more is (record {
             list = λ calls. of-behind (IsTypedOver seen) conditions.list right.tree (c.list (front IsSeenCall conditions.calls right.calls calls)) (r.typed (back IsSeenCall conditions.calls right.calls calls));
             kinds = all-behind (λ (e : Expr). kind_of e ≡ Boolean) conditions.list right.tree (subst (λ (k : SqlType). AllByRecursion (λ (e : Expr). kind_of e ≡ k) conditions.list) (truth-kind conditions.kind both.0) c.kinds)
-              (truth-kind (kind_of right.tree) both.1);
+                (truth-kind (kind_of right.tree) both.1);
             settled = settled-behind conditions.list right.tree;
             proper = tt;
             short = of-behind (HasShortTexts limit) conditions.list right.tree c.short r.short;

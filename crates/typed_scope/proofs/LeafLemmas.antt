@@ -1,6 +1,6 @@
 -- Columns, literals and aggregates are typed.
-use Rattle.std.proofs.Common.{◌≡◌, ℕ, zero, suc, ◌+◌, ◌-◌, ◌<◌, ◌≤◌, ◌^◌, Bool, true, false, cond, nat_lt, nat_le, ◌&&◌, List, [], ◌∷◌, map, length, refl, sym, ap, ◌∙◌, subst, Option, Some, None, Ok, Err, inl, inr, arith}
-use Rattle.std.specs.Prelude.{ℤ, pos, negsuc, ◌+ℤ◌, slice_get, ⊤}
+use Rattle.std.proofs.Common.{◌≡◌, ℕ, zero, suc, ◌+◌, ◌<◌, ◌≤◌, ◌^◌, Bool, true, false, cond, nat_lt, nat_le, List, [], ◌∷◌, map, length, refl, sym, ap, ◌∙◌, subst, Option, Some, None, Ok, Err, inl, arith}
+use Rattle.std.specs.Prelude.{ℤ, pos, ◌+ℤ◌, slice_get}
 use Rattle.std.specs.Str.{bytes_eq}
 use Rattle.std.specs.List.{AllByRecursion}
 use Rattle.std.proofs.lemmas.Bool.{and_parts, leb-true, ltb-true}
@@ -36,7 +36,7 @@ use Rattle.sql_scope.specs.declared.call.Function.TheVariants.{Count, Sum, Least
 use Rattle.sql_scope.specs.declared.part.Call.{Call}
 use Rattle.sql_scope.specs.declared.part.Part.{Part}
 use Rattle.sql_scope.specs.declared.scope.ScopeColumn.{ScopeColumn}
-use Rattle.sql_scope.specs.Answer.{Answer, ◌>>=◌, or_refuse, unless}
+use Rattle.sql_scope.specs.Answer.{Answer, ◌>>=◌, unless}
 use Rattle.sql_scope.specs.Calls.{aggregate, count_type, distinct_call, most_summed, star_call, sum_type, value_call, value_type}
 use Rattle.sql_scope.specs.Dates.{all_days, day_from, day_of}
 use Rattle.sql_scope.specs.Literals as rules
@@ -44,7 +44,7 @@ use Rattle.sql_scope.specs.Parts.{column, column_part, constant_part, literal, p
 use Rattle.sql_scope.specs.Scopes.{Spot, View, first_token, found, in_source, is_in, is_named, is_of, kinds, named_column, only, spots}
 use Rattle.sql_scope.specs.Texts.{folded_at, text_at}
 use Rattle.typed_scope.specs.Typed.{IsPartOver, IsTypedNodeOver, IsTypedOver, seen_of}
-use Rattle.typed_scope.proofs.PartLemmas.{answered, asked}
+use Rattle.typed_scope.proofs.PartLemmas.{answered}
 
 -- what stands in front of an answer was answered
 pub first-answer : {A B : Type 0} (m : Answer A) (f : A → Answer B) (b : B) → (m >>= f) ≡ Ok b → (a : A) × ((m ≡ Ok a) × (f a ≡ Ok b))
@@ -211,7 +211,7 @@ aggregate-typed calls limit view place kind of result part proper is = by view.a
     by false is = cc
     by true is = answered (IsPartOver (kinds view) calls limit) (call_part view place kind of result) part is (record {
       typed = λ all. every_column (IsTypedNodeOver (seen_of (kinds view) calls)) (length view.columns + place) result
-        (subst (λ (n : ℕ). seen_of (kinds view) calls (n + place) result) (sym (length-kinds view.columns)) all.0);
+          (subst (λ (n : ℕ). seen_of (kinds view) calls (n + place) result) (sym (length-kinds view.columns)) all.0);
       short = every_column (IsShortNode limit) (length view.columns + place) result tt;
       proper = subst IsProper (sym (column-kind (length view.columns + place) result)) proper;
     })

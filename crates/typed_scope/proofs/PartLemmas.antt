@@ -1,5 +1,5 @@
 -- What operations make of typed operands is typed.
-use Rattle.std.proofs.Common.{◌≡◌, ℕ, ◌+◌, Bool, true, false, cond, ◌&&◌, List, [], ◌∷◌, ◌++◌, refl, sym, ap, ◌∙◌, subst, Ok, Err, Option}
+use Rattle.std.proofs.Common.{◌≡◌, ℕ, ◌+◌, Bool, true, false, ◌&&◌, List, [], ◌∷◌, ◌++◌, refl, sym, ap, ◌∙◌, subst, Ok}
 use Rattle.std.specs.List.{AllByRecursion}
 use Rattle.std.proofs.lemmas.Bool.{and_parts}
 use Rattle.ooc_types.specs.declared.refusal.RefusalKind.{RefusalKind}
@@ -14,14 +14,14 @@ use Rattle.sql_expr.specs.declared.tree.Expr.TheVariants.{Not, Minus, Compare, I
 use Rattle.sql_expr.specs.declared.tree.Expr.TheViews.{out-Expr, out-roll-Expr}
 use Rattle.sql_expr.specs.Kinds.{kind_of}
 use Rattle.sql_expr.specs.Operations.{IsComparable, IsProper, family}
-use Rattle.sql_expr.specs.Values.{HasShortTexts, IsShortNode}
+use Rattle.sql_expr.specs.Values.{IsShortNode}
 use Rattle.sql_expr.proofs.Every.{every_not, every_minus, every_compare, every_is_null, every_between}
 use Rattle.sql_expr.proofs.Nodes.{kind_out}
 use Rattle.sql_grammar.specs.declared.tree.expr.CompareSign.{CompareSign as WrittenCompare}
 use Rattle.sql_scope.specs.declared.part.Call.{Call}
 use Rattle.sql_scope.specs.declared.part.Part.{Part}
 use Rattle.sql_scope.specs.Answer.{Answer, ◌>>=◌, unless}
-use Rattle.sql_scope.specs.Operations.{are_comparable, are_numbers, are_of_one, are_truths, is_boolean, is_number}
+use Rattle.sql_scope.specs.Operations.{are_comparable, are_of_one, is_boolean, is_number}
 use Rattle.sql_scope.specs.Parts.{between, comparison, minus, negation, null_test, part_of}
 use Rattle.sql_scope.specs.Scopes.{View}
 use Rattle.sql_scope.specs.Trees.{compare_sign}
@@ -136,10 +136,10 @@ module _ (seen : Seen) (width limit : ℕ) where
       let a = asked (are_comparable (kind_of left.tree) (kind_of right.tree)) place _ tree _ part is in
       answered Typed (part_of view tree _ (left.calls ++ right.calls)) part a.1 (record {
         typed = λ calls. every_compare (IsTypedNodeOver seen) (compare_sign sign) left.tree right.tree (l.typed (front IsSeenCall left.calls right.calls calls)) (r.typed (back IsSeenCall left.calls right.calls calls))
-          (comparable (kind_of left.tree) (kind_of right.tree) a.0);
+            (comparable (kind_of left.tree) (kind_of right.tree) a.0);
         short = every_compare (IsShortNode limit) (compare_sign sign) left.tree right.tree l.short r.short tt;
         proper = boolean-out tree (kind_out tree (Expr-F.Compare (compare_sign sign) left.tree right.tree)
-          (ap out-Expr (sym (rolls-Compare (compare_sign sign) left.tree right.tree)) ∙ out-roll-Expr (Expr-F.Compare (compare_sign sign) left.tree right.tree)));
+            (ap out-Expr (sym (rolls-Compare (compare_sign sign) left.tree right.tree)) ∙ out-roll-Expr (Expr-F.Compare (compare_sign sign) left.tree right.tree)));
       })
 
   pub null_test-typed : (view : View) (negated : Bool) (of part : Part) → Typed of → null_test view negated of ≡ Ok part → Typed part
@@ -148,7 +148,7 @@ module _ (seen : Seen) (width limit : ℕ) where
         typed = λ calls. every_is_null (IsTypedNodeOver seen) of.tree negated (typed.typed calls) tt;
         short = every_is_null (IsShortNode limit) of.tree negated typed.short tt;
         proper = boolean-out (IsNull of.tree negated) (kind_out (IsNull of.tree negated) (Expr-F.IsNull of.tree negated)
-          (ap out-Expr (sym (rolls-IsNull of.tree negated)) ∙ out-roll-Expr (Expr-F.IsNull of.tree negated)));
+            (ap out-Expr (sym (rolls-IsNull of.tree negated)) ∙ out-roll-Expr (Expr-F.IsNull of.tree negated)));
       })
 
   pub between-typed : (view : View) (place : ℕ) (negated : Bool) (of low high part : Part) → Typed of → Typed low → Typed high → between view place negated of low high ≡ Ok part → Typed part
@@ -160,10 +160,10 @@ module _ (seen : Seen) (width limit : ℕ) where
       let both = and_parts first second a.0 in
       answered Typed (part_of view tree _ (of.calls ++ (low.calls ++ high.calls))) part a.1 (record {
         typed = λ calls. let later = back IsSeenCall of.calls (low.calls ++ high.calls) calls in
-          every_between (IsTypedNodeOver seen) of.tree low.tree high.tree negated
-          (o.typed (front IsSeenCall of.calls (low.calls ++ high.calls) calls)) (l.typed (front IsSeenCall low.calls high.calls later)) (h.typed (back IsSeenCall low.calls high.calls later))
-          (comparable (kind_of of.tree) (kind_of low.tree) both.0, comparable (kind_of of.tree) (kind_of high.tree) both.1);
+            every_between (IsTypedNodeOver seen) of.tree low.tree high.tree negated
+            (o.typed (front IsSeenCall of.calls (low.calls ++ high.calls) calls)) (l.typed (front IsSeenCall low.calls high.calls later)) (h.typed (back IsSeenCall low.calls high.calls later))
+            (comparable (kind_of of.tree) (kind_of low.tree) both.0, comparable (kind_of of.tree) (kind_of high.tree) both.1);
         short = every_between (IsShortNode limit) of.tree low.tree high.tree negated o.short l.short h.short tt;
         proper = boolean-out tree (kind_out tree (Expr-F.Between of.tree low.tree high.tree negated)
-          (ap out-Expr (sym (rolls-Between of.tree low.tree high.tree negated)) ∙ out-roll-Expr (Expr-F.Between of.tree low.tree high.tree negated)));
+            (ap out-Expr (sym (rolls-Between of.tree low.tree high.tree negated)) ∙ out-roll-Expr (Expr-F.Between of.tree low.tree high.tree negated)));
       })

@@ -2,20 +2,23 @@
 ghost use Rattle.std.specs.Prelude.{◌≡◌, ℕ, Bool, List, Option, Ok};
 ghost use Rattle.std.specs.List.{AllByRecursion};
 ghost use Rattle.ooc_types.specs.declared.schema.SqlType.{SqlType as Kind};
+ghost use Rattle.sql_expr.specs.declared.tree.Expr.{Expr as Tree};
 ghost use Rattle.sql_expr.specs.Operations.{IsProper};
+ghost use Rattle.sql_expr.specs.Values.{HasShortTexts};
 ghost use Rattle.sql_grammar.specs.declared.tree.expr.ChainSign.{ChainSign as WrittenSign};
 ghost use Rattle.sql_grammar.specs.declared.tree.expr.ColumnName.{ColumnName as WrittenName};
 ghost use Rattle.sql_grammar.specs.declared.tree.expr.CompareSign.{CompareSign as WrittenCompare};
 ghost use Rattle.sql_grammar.specs.declared.tree.expr.Literal.{Literal as WrittenLiteral};
+ghost use Rattle.sql_grammar.specs.declared.tree.expr.Span.{Span as Place};
 ghost use Rattle.sql_scope.specs.declared.call.Function.{Function as Aggregating};
 ghost use Rattle.sql_scope.specs.declared.chain.Chain.{Chain as BoundChain};
 ghost use Rattle.sql_scope.specs.declared.chain.Conditions.{Conditions as BoundConditions};
 ghost use Rattle.sql_scope.specs.declared.part.Call.{Call as WrittenCall};
 ghost use Rattle.sql_scope.specs.declared.part.Part.{Part as BoundPart};
 ghost use Rattle.sql_scope.specs.Calls.{distinct_call, star_call, value_call};
-ghost use Rattle.sql_scope.specs.Parts.{begun, between, column, comparison, either, ended, every, joined, linked, literal, minus, negation, null_test, started};
+ghost use Rattle.sql_scope.specs.Parts.{begun, between, column, comparison, either, ended, every, joined, like, linked, literal, minus, negation, null_test, one_of, started};
 ghost use Rattle.sql_scope.specs.Scopes.{View as Scope, kinds};
-ghost use Rattle.typed_scope.specs.Typed.{IsChainOver, IsPartOver, AreConditionsOver};
+ghost use Rattle.typed_scope.specs.Typed.{AreConditionsOver, IsChainOver, IsPartOver, IsTypedOver, seen_of};
 
 /// What an operation makes of typed operands is typed.
 pub fn operations_give_typed_parts()
@@ -26,6 +29,10 @@ pub fn operations_give_typed_parts()
     ensures null_test { (columns : List Kind) (calls : List WrittenCall) (limit : ℕ) (view : Scope) (negated : Bool) (of part : BoundPart) → IsPartOver columns calls limit of → null_test view negated of ≡ Ok part → IsPartOver columns calls limit part }
     ensures between { (columns : List Kind) (calls : List WrittenCall) (limit : ℕ) (view : Scope) (place : ℕ) (negated : Bool) (of low high part : BoundPart) → IsPartOver columns calls limit of → IsPartOver columns calls limit low → IsPartOver columns calls limit high
         → between view place negated of low high ≡ Ok part → IsPartOver columns calls limit part }
+    ensures like { (columns : List Kind) (calls : List WrittenCall) (limit : ℕ) (view : Scope) (place : ℕ) (negated : Bool) (pattern : Place) (of part : BoundPart) → IsPartOver columns calls limit of
+        → like view place negated pattern of ≡ Ok part → IsPartOver columns calls limit part }
+    ensures one_of { (columns : List Kind) (calls : List WrittenCall) (limit : ℕ) (view : Scope) (place : ℕ) (negated : Bool) (of : BoundPart) (list : List Tree) (part : BoundPart) → IsPartOver columns calls limit of
+        → AllByRecursion (IsTypedOver (seen_of columns calls)) list → AllByRecursion (HasShortTexts limit) list → one_of view place negated of list ≡ Ok part → IsPartOver columns calls limit part }
 {}
 
 /// A column of a scope, a literal and an aggregate are typed over what the scope sees, where its columns are of proper types.
