@@ -1,0 +1,4 @@
+pub mod PartLemmas
+pub mod LeafLemmas
+pub mod ChainLemmas
+pub mod ListLemmas
