@@ -1,0 +1,10 @@
+pub mod Going
+pub mod Loops
+pub mod Nodes
+pub mod Steps
+pub mod CoreLaws
+pub mod Arms
+pub mod ClauseArms
+pub mod Standing
+pub mod RowsArms
+pub mod AggregateArms
