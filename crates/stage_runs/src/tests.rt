@@ -8,7 +8,8 @@ use std::alloc::{AllocError, Global};
 use std::sync::Wait;
 use std::sync::atomic::{AtomicU64, Ordering};
 use std::test::Fail;
-use std::thread::Threads;
+use std::thread::{self, Threads};
+use std::time::{Clock, Duration};
 use worker_gate::run_workers;
 use worker_stage::{Desk, StageFault};
 
@@ -207,6 +208,65 @@ fn each_start_and_each_draw_passes_the_gate(rt: HostRuntime) -> Result<(), Fail>
     stage_of(&rt, rt.alloc(), &gate, 4, 30, 100);
     assert_eq!(rt; gate.starts.load(Ordering::SeqCst), 4);
     assert_eq!(rt; gate.draws.load(Ordering::SeqCst), 30);
+    Ok(())
+}
+
+/// How many milliseconds a worker waits for another one at most.
+const PATIENCE: u64 = 15_000;
+
+/// A gate at which worker 0 waits at its start until worker 1 has drawn, and worker 1 at its first draw until worker 0 has
+/// started. Each waits so long and no longer. It counts how many met the other.
+#[derive(Drop)]
+struct MeetingGate<'a, R: Clock> {
+    rt: &'a R,
+    starts: AtomicU64,
+    draws: AtomicU64,
+    met: AtomicU64,
+}
+
+impl<'a, R: Clock> MeetingGate<'a, R> {
+    // Waits until something was counted.
+    fn wait_for(&self, count: &AtomicU64) {
+        for _ in 0..PATIENCE {
+            if count.load(Ordering::SeqCst) > 0 {
+                self.met.fetch_add(1, Ordering::SeqCst);
+                return;
+            }
+            thread::sleep(self.rt, Duration::from_millis(1));
+        }
+    }
+}
+
+impl<'a, R: Clock> Gate for MeetingGate<'a, R> {
+    fn at(&self, worker: u32, point: GatePoint) {
+        match point {
+            GatePoint::Start => {
+                if worker == 0 {
+                    self.starts.fetch_add(1, Ordering::SeqCst);
+                    self.wait_for(&self.draws);
+                }
+            }
+            GatePoint::Drew(_) => {
+                if worker == 1 && self.draws.fetch_add(1, Ordering::SeqCst) == 0 {
+                    self.wait_for(&self.starts);
+                }
+            }
+        }
+    }
+}
+
+// A stage that runs its workers one after another, in whichever order, ends too, and one of them doesn't meet the other.
+#[test]
+fn two_workers_are_beside_one_another(rt: HostRuntime) -> Result<(), Fail> {
+    let gate = MeetingGate {
+        rt: &rt,
+        starts: AtomicU64::new(0),
+        draws: AtomicU64::new(0),
+        met: AtomicU64::new(0),
+    };
+    let ended = stage_of(&rt, rt.alloc(), &gate, 2, 30, 100);
+    assert_eq!(rt; ended, (Ending::Done, (30, 85)));
+    assert_eq!(rt; gate.met.load(Ordering::SeqCst), 2);
     Ok(())
 }
 
