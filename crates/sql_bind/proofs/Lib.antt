@@ -1,0 +1,4 @@
+pub mod ExprArms
+pub mod ItemArms
+pub mod RowsAt
+pub mod Sizes
