@@ -3,8 +3,6 @@
 #![tactic(auto)]
 
 #[cfg(test)]
-mod printing;
-#[cfg(test)]
 mod selects;
 #[cfg(test)]
 mod tables;

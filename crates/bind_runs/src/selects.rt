@@ -1,10 +1,10 @@
 //! Bound statements as texts: `(`, what the node is, its parts, `)`.
-use crate::printing::{Page, print_aggregates, print_expr, print_exprs};
 use bound_tree::{
-    Bound, BoundCore, BoundRows, BoundSelect, BoundSource, Conjunct, Cut, Grouping, JoinKind,
-    SetKind, SortKey, SourceRows,
+    Aggregate, Bound, BoundCore, BoundRows, BoundSelect, BoundSource, Conjunct, Cut, Grouping,
+    JoinKind, SetKind, SortKey, SourceRows,
 };
 use ooc_types::{Column, Schema, SqlType};
+use typed_text::{Printed, aggregate_text, print_expr, print_exprs};
 
 fn join_text(join: JoinKind) -> &'static str {
     match join {
@@ -23,128 +23,139 @@ fn set_text(kind: SetKind) -> &'static str {
     }
 }
 
-fn print_kinds(kinds: &[SqlType], page: &mut Page) {
+fn print_aggregates(aggregates: &[Aggregate], out: &mut Printed) {
+    for aggregate in aggregates {
+        out.open(aggregate_text(aggregate.kind));
+        if let Some(of) = &aggregate.of {
+            print_expr(of.get(), out);
+        }
+        out.kind(aggregate.result);
+        out.close();
+    }
+}
+
+fn print_kinds(kinds: &[SqlType], out: &mut Printed) {
     for kind in kinds {
-        page.kind(*kind);
+        out.kind(*kind);
     }
 }
 
-fn print_columns(what: &str, columns: &[Column], page: &mut Page) {
-    page.open(what);
+fn print_columns(what: &str, columns: &[Column], out: &mut Printed) {
+    out.open(what);
     for column in columns {
-        page.name(&column.name);
-        page.kind(column.kind);
+        out.name(&column.name);
+        out.kind(column.kind);
         if !column.nullable {
-            page.put("!");
+            out.put("!");
         }
     }
-    page.close();
+    out.close();
 }
 
-fn print_list(what: &str, list: &[sql_expr::Expr], page: &mut Page) {
-    page.open(what);
-    print_exprs(list, page);
-    page.close();
+fn print_list(what: &str, list: &[sql_expr::Expr], out: &mut Printed) {
+    out.open(what);
+    print_exprs(list, out);
+    out.close();
 }
 
-fn print_grouping(grouping: &Grouping, page: &mut Page) {
-    print_list("keys", grouping.keys.as_slice(), page);
-    print_aggregates(grouping.aggregates.as_slice(), page);
+fn print_grouping(grouping: &Grouping, out: &mut Printed) {
+    print_list("keys", grouping.keys.as_slice(), out);
+    print_aggregates(grouping.aggregates.as_slice(), out);
     if let Some(having) = &grouping.having {
-        print_list("having", having.as_slice(), page);
+        print_list("having", having.as_slice(), out);
     }
 }
 
-fn print_keys(keys: &[SortKey], page: &mut Page) {
+fn print_keys(keys: &[SortKey], out: &mut Printed) {
     for key in keys {
-        page.number("#", key.place as u128);
+        out.number("#", key.place as u128);
         if key.descending {
-            page.put("-desc");
+            out.put("-desc");
         }
     }
 }
 
-fn print_cut(cut: &Cut, page: &mut Page) {
-    page.open("order");
-    print_keys(cut.keys.as_slice(), page);
+fn print_cut(cut: &Cut, out: &mut Printed) {
+    out.open("order");
+    print_keys(cut.keys.as_slice(), out);
     if let Some(limit) = cut.limit {
-        page.number("limit", limit);
+        out.number("limit", limit);
     }
     if let Some(offset) = cut.offset {
-        page.number("offset", offset);
+        out.number("offset", offset);
     }
-    page.close();
+    out.close();
 }
 
 #[cycle(show)]
-fn print_source_rows(rows: &SourceRows, page: &mut Page) {
+fn print_source_rows(rows: &SourceRows, out: &mut Printed) {
     match rows {
-        SourceRows::Table(name) => page.name(name),
-        SourceRows::Query(select) => print_select(select.get(), page),
+        SourceRows::Table(name) => out.name(name),
+        SourceRows::Query(select) => print_select(select.get(), out),
     }
 }
 
 #[cycle(show)]
-fn print_source(source: &BoundSource, page: &mut Page) {
-    page.open(join_text(source.join));
-    page.name(&source.name);
-    print_source_rows(&source.rows, page);
+fn print_source(source: &BoundSource, out: &mut Printed) {
+    out.open(join_text(source.join));
+    out.name(&source.name);
+    print_source_rows(&source.rows, out);
     if !source.on.is_empty() {
-        print_list("on", source.on.as_slice(), page);
+        print_list("on", source.on.as_slice(), out);
     }
-    page.close();
+    out.close();
 }
 
 #[cycle(show)]
-fn print_sources(sources: &[BoundSource], page: &mut Page) {
+fn print_sources(sources: &[BoundSource], out: &mut Printed) {
     for source in sources {
-        print_source(source, page);
+        print_source(source, out);
     }
 }
 
 #[cycle(show)]
-fn print_conjunct(conjunct: &Conjunct, page: &mut Page) {
+fn print_conjunct(conjunct: &Conjunct, out: &mut Printed) {
     match conjunct {
-        Conjunct::Condition(expr) => print_expr(expr, page),
+        Conjunct::Condition(expr) => print_expr(expr, out),
         Conjunct::Member { of, query, negated } => {
-            page.open_test(*negated, "member");
-            print_expr(of, page);
-            print_select(query.get(), page);
-            page.close();
+            out.open_test(*negated, "member");
+            print_expr(of, out);
+            print_select(query.get(), out);
+            out.close();
         }
     }
 }
 
 #[cycle(show)]
-fn print_conjuncts(conjuncts: &[Conjunct], page: &mut Page) {
+fn print_conjuncts(conjuncts: &[Conjunct], out: &mut Printed) {
     if conjuncts.is_empty() {
         return;
     }
-    page.open("where");
+    out.open("where");
     for conjunct in conjuncts {
-        print_conjunct(conjunct, page);
+        print_conjunct(conjunct, out);
     }
-    page.close();
+    out.close();
 }
 
 #[cycle(show)]
-fn print_core(core: &BoundCore, page: &mut Page) {
-    print_sources(core.sources.as_slice(), page);
-    print_conjuncts(core.conjuncts.as_slice(), page);
+fn print_core(core: &BoundCore, out: &mut Printed) {
+    print_sources(core.sources.as_slice(), out);
+    print_conjuncts(core.conjuncts.as_slice(), out);
     if let Some(grouping) = &core.grouping {
-        print_grouping(grouping, page);
+        print_grouping(grouping, out);
     }
     print_list(
         if core.distinct { "distinct" } else { "items" },
         core.items.as_slice(),
-        page,
+        out,
     );
 }
 
 #[cycle(show)]
-fn print_rows(rows: &BoundRows, page: &mut Page) {
+fn print_rows(rows: &BoundRows, out: &mut Printed) {
     match rows {
-        BoundRows::Core(core) => print_core(core, page),
+        BoundRows::Core(core) => print_core(core, out),
         BoundRows::Set {
             kind,
             all,
@@ -152,44 +163,44 @@ fn print_rows(rows: &BoundRows, page: &mut Page) {
             right,
             kinds,
         } => {
-            page.open(set_text(*kind));
+            out.open(set_text(*kind));
             if *all {
-                page.put("-all");
+                out.put("-all");
             }
-            print_rows(left.get(), page);
-            print_rows(right.get(), page);
-            print_kinds(kinds.as_slice(), page);
-            page.close();
+            print_rows(left.get(), out);
+            print_rows(right.get(), out);
+            print_kinds(kinds.as_slice(), out);
+            out.close();
         }
     }
 }
 
 #[cycle(show)]
-fn print_select(select: &BoundSelect, page: &mut Page) {
-    page.open("select");
-    print_rows(select.rows.get(), page);
-    print_columns("to", select.columns.as_slice(), page);
+fn print_select(select: &BoundSelect, out: &mut Printed) {
+    out.open("select");
+    print_rows(select.rows.get(), out);
+    print_columns("to", select.columns.as_slice(), out);
     if let Some(cut) = &select.cut {
-        print_cut(cut, page);
+        print_cut(cut, out);
     }
-    page.close();
+    out.close();
 }
 
-fn print_table(columns: &Schema, page: &mut Page) {
-    print_columns("columns", columns.as_slice(), page);
+fn print_table(columns: &Schema, out: &mut Printed) {
+    print_columns("columns", columns.as_slice(), out);
 }
 
 /// A statement.
-pub(crate) fn print_bound(bound: &Bound, page: &mut Page) {
+pub(crate) fn print_bound(bound: &Bound, out: &mut Printed) {
     match bound {
         Bound::CreateTable { name, columns } => {
-            page.word("create");
-            page.name(name);
-            print_table(columns, page);
+            out.word("create");
+            out.name(name);
+            print_table(columns, out);
         }
         Bound::DropTable { name } => {
-            page.word("drop");
-            page.name(name);
+            out.word("drop");
+            out.name(name);
         }
         Bound::Copy {
             name,
@@ -198,17 +209,17 @@ pub(crate) fn print_bound(bound: &Bound, page: &mut Page) {
             delimiter,
             null,
         } => {
-            page.word("copy");
-            page.name(name);
-            page.quoted(file);
-            page.word(if *header { "header" } else { "no-header" });
-            page.number("delimiter", u128::from(*delimiter));
-            page.quoted(null);
+            out.word("copy");
+            out.name(name);
+            out.quoted(file);
+            out.word(if *header { "header" } else { "no-header" });
+            out.number("delimiter", u128::from(*delimiter));
+            out.quoted(null);
         }
         Bound::Explain(select) => {
-            page.word("explain");
-            print_select(select, page);
+            out.word("explain");
+            print_select(select, out);
         }
-        Bound::Select(select) => print_select(select, page),
+        Bound::Select(select) => print_select(select, out),
     }
 }

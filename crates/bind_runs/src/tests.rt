@@ -1,6 +1,5 @@
 //! Statements with what they are bound to, or with their refusal, written by hand from the rules. In a refused
 //! statement `^` stands before the token at which it is refused.
-use crate::printing::Page;
 use crate::selects::print_bound;
 use crate::tables::tables;
 use bound_tree::Bound;
@@ -11,6 +10,7 @@ use sql_parse::parse;
 use sql_scope::BindFault;
 use std::alloc::Global;
 use std::test::Fail;
+use typed_text::Printed;
 
 /// How many bytes a text may have.
 const LIMIT: usize = 4;
@@ -55,13 +55,13 @@ fn is_refused(alloc: Global, marked: &str, kind: RefusalKind) -> Result<bool, Fa
     Ok(refused_at(place, kind, &bound))
 }
 
-fn shown(alloc: Global, script: &str) -> Result<Page, Fail> {
-    let mut page = Page::new(alloc);
+fn shown(alloc: Global, script: &str) -> Result<Printed, Fail> {
+    let mut out = Printed::new(alloc);
     match bound(alloc, script)? {
-        Ok(bound) => print_bound(&bound, &mut page),
+        Ok(bound) => print_bound(&bound, &mut out),
         Err(_) => return Err("refused".into()),
     }
-    Ok(page)
+    Ok(out)
 }
 
 /// CREATE, DROP, COPY, and the sources of a SELECT with their ON.
@@ -572,9 +572,9 @@ fn orders_and_set_operations_are_refused(rt: HostRuntime) -> Result<(), Fail> {
 #[test]
 fn statements_are_bound(rt: HostRuntime) -> Result<(), Fail> {
     for (script, expected) in &STATEMENTS_BOUND {
-        let page = shown(rt.alloc(), script)?;
-        assert!(rt; page.is_whole);
-        assert_eq!(rt; page.text.as_str(), *expected, "at {script}");
+        let out = shown(rt.alloc(), script)?;
+        assert!(rt; out.is_whole);
+        assert_eq!(rt; out.text.as_str(), *expected, "at {script}");
     }
     Ok(())
 }
@@ -582,9 +582,9 @@ fn statements_are_bound(rt: HostRuntime) -> Result<(), Fail> {
 #[test]
 fn selects_are_bound(rt: HostRuntime) -> Result<(), Fail> {
     for (script, expected) in &SELECTS_BOUND {
-        let page = shown(rt.alloc(), script)?;
-        assert!(rt; page.is_whole);
-        assert_eq!(rt; page.text.as_str(), *expected, "at {script}");
+        let out = shown(rt.alloc(), script)?;
+        assert!(rt; out.is_whole);
+        assert_eq!(rt; out.text.as_str(), *expected, "at {script}");
     }
     Ok(())
 }
@@ -600,9 +600,9 @@ fn other_statements_are_refused(rt: HostRuntime) -> Result<(), Fail> {
 #[test]
 fn other_selects_are_bound(rt: HostRuntime) -> Result<(), Fail> {
     for (script, expected) in &OTHERS_BOUND {
-        let page = shown(rt.alloc(), script)?;
-        assert!(rt; page.is_whole);
-        assert_eq!(rt; page.text.as_str(), *expected, "at {script}");
+        let out = shown(rt.alloc(), script)?;
+        assert!(rt; out.is_whole);
+        assert_eq!(rt; out.text.as_str(), *expected, "at {script}");
     }
     Ok(())
 }

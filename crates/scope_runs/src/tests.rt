@@ -1,7 +1,7 @@
 //! Expressions with what they are bound to, or with their refusal, written by hand from the rules. In a refused
 //! expression `^` stands before the token at which it is refused.
 use crate::expression::bind_expr;
-use crate::printing::{Page, print_part};
+use crate::printing::print_part;
 use ooc_types::{Column, RefusalKind, Schema, SqlType, Text};
 use sql_expr::Expr as Tree;
 use sql_grammar::tree::{Expr, Item, Rows, Span, Statement};
@@ -14,6 +14,7 @@ use sql_scope::{
 use sqlite_items::Boxed;
 use std::alloc::Global;
 use std::test::Fail;
+use typed_text::Printed;
 
 /// How many bytes a text may have.
 const LIMIT: usize = 4;
@@ -218,13 +219,13 @@ fn refused_at(place: usize, kind: RefusalKind, bound: &BoundPart) -> bool {
 #[test]
 fn expressions_are_bound(rt: HostRuntime) -> Result<(), Fail> {
     for (script, expected) in &BOUND {
-        let mut page = Page::new(rt.alloc());
+        let mut out = Printed::new(rt.alloc());
         match bound_item(rt.alloc(), script)? {
-            Ok(part) => print_part(&part, &mut page),
+            Ok(part) => print_part(&part, &mut out),
             Err(_) => return Err((*script).into()),
         }
-        assert!(rt; page.is_whole);
-        assert_eq!(rt; page.text.as_str(), *expected, "at {script}");
+        assert!(rt; out.is_whole);
+        assert_eq!(rt; out.text.as_str(), *expected, "at {script}");
     }
     Ok(())
 }
