@@ -4,3 +4,4 @@ pub mod Gathering
 pub mod JoinSteps
 pub mod MakesLaws
 pub mod Regrouping
+pub mod Pairing

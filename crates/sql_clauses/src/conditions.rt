@@ -1,10 +1,12 @@
 //! Conditions, and the conjuncts of WHERE.
-ghost use Rattle.std.specs.Prelude.{◌≡◌, Ok};
+ghost use Rattle.std.specs.Prelude.{◌≡◌, ◌++◌, ◌∷◌, ◌&&◌, [], IfOk, Ok};
 ghost use Rattle.sql_scope.specs.Answer.{Gives, GoesOn, GoesOnBoth};
+ghost use Rattle.sql_scope.specs.Operations as types;
 ghost use Rattle.sql_clauses.specs.Conditions as rules;
 
+use crate::pairs::both;
 use bound_tree::Conjunct;
-use ooc_types::{RefusalKind, SqlType};
+use ooc_types::{OutOfMemory, RefusalKind, SqlType};
 use sql_expr::{Expr, Exprs, kind_of};
 use sql_scope::{BindFault, BoundPart, Part, is_boolean};
 use sqlite_items::Items;
@@ -87,6 +89,39 @@ pub fn begun(alloc: Global, operand: Result<FilterOperand, BindFault>) -> Result
     Ok(Filter { conjuncts, kind })
 }
 
+fn with_conjunct(
+    conjuncts: Items<Conjunct>,
+    conjunct: Conjunct,
+) -> Result<Items<Conjunct>, OutOfMemory>
+    ensures { IfOk result (λ all. all ≡ conjuncts ++ conjunct ∷ []) }
+{
+    let mut conjuncts = conjuncts;
+    conjuncts.push(conjunct)?;
+    Ok(conjuncts)
+}
+
+fn are_conditions(left: SqlType, right: SqlType) -> bool
+    ensures { result ≡ (types.is_boolean left && types.is_boolean right) }
+{
+    is_boolean(left) && is_boolean(right)
+}
+
+fn joined_pair(
+    place: usize,
+    pair: Result<(Filter, FilterOperand), BindFault>,
+) -> Result<Filter, BindFault>
+    ensures { GoesOn (λ p. rules.joined place p.0 p.1) pair result }
+{
+    let (filter, operand) = pair?;
+    if !are_conditions(filter.kind, operand.kind) {
+        return Err(mismatch(place));
+    }
+    Ok(Filter {
+        conjuncts: with_conjunct(filter.conjuncts, operand.conjunct)?,
+        kind: SqlType::Boolean,
+    })
+}
+
 /// One more operand, behind an AND at this place.
 pub fn joined(
     place: usize,
@@ -95,17 +130,7 @@ pub fn joined(
 ) -> Result<Filter, BindFault>
     ensures { GoesOnBoth (rules.joined place) filter operand result }
 {
-    let filter = filter?;
-    let operand = operand?;
-    if !(is_boolean(filter.kind) && is_boolean(operand.kind)) {
-        return Err(mismatch(place));
-    }
-    let mut conjuncts = filter.conjuncts;
-    conjuncts.push(operand.conjunct)?;
-    Ok(Filter {
-        conjuncts,
-        kind: SqlType::Boolean,
-    })
+    joined_pair(place, both(filter, operand))
 }
 
 /// The conjuncts of WHERE, whose condition's first token stands at `place`.

@@ -1,5 +1,5 @@
 //! A core, once its clauses are bound.
-ghost use Rattle.std.specs.Prelude.{◌≡◌, ◌≤◌, IfOk, length};
+ghost use Rattle.std.specs.Prelude.{◌≡◌, ◌≤◌, ◌++◌, Some, IfOk, OnOk, length};
 ghost use Rattle.sql_scope.specs.Answer.{Gives, GoesOn, GoesOnBoth};
 ghost use Rattle.sql_clauses.specs.Aggregates.{AreAmong};
 ghost use Rattle.sql_clauses.specs.Grouping.{most_places};
@@ -9,11 +9,12 @@ use crate::aggregates::{Gathered, are_unmixed, first_call, gather};
 use crate::conditions::{condition, conjuncts};
 use crate::grouping::list_over;
 use crate::items::{Outputs, covered};
+use crate::pairs::both;
 use crate::tables::MOST_COLUMNS;
 use bound_tree::{BoundCore, BoundRows, BoundSource, Conjunct, Grouping};
 use ooc_types::{OutOfMemory, RefusalKind, Schema};
 use sql_expr::Exprs;
-use sql_scope::{BindFault, BoundPart, ScopeColumn};
+use sql_scope::{BindFault, BoundPart, Call, Part, ScopeColumn};
 use sqlite_items::{Boxed, Items};
 use std::alloc::Global;
 use std::mem;
@@ -59,6 +60,49 @@ pub fn without_having(outputs: Result<Outputs, BindFault>) -> Result<Selected, B
     })
 }
 
+fn add_calls(outputs: &mut Outputs, calls: Items<Call>) -> Result<(), OutOfMemory>
+    ensures { OnOk result (outputs.new ≡ record outputs.old { calls = outputs.old.calls ++ calls }) }
+{
+    outputs.calls.append(calls)?;
+    Ok(())
+}
+
+fn with_conjuncts(alloc: Global, outputs: Outputs, part: Part) -> Result<Selected, BindFault>
+    ensures { Gives (rules.with_conjuncts outputs part) result }
+{
+    let Part { tree, calls, .. } = part;
+    let having = conjuncts(alloc, tree.into_inner())?;
+    let mut outputs = outputs;
+    add_calls(&mut outputs, calls)?;
+    Ok(Selected {
+        outputs,
+        having: Some(having),
+    })
+}
+
+fn having_behind(
+    alloc: Global,
+    place: usize,
+    outputs: Outputs,
+    part: Part,
+) -> Result<Selected, BindFault>
+    ensures { Gives (rules.with_having place outputs part) result }
+{
+    let part = covered(true, condition(place, part)?)?;
+    with_conjuncts(alloc, outputs, part)
+}
+
+fn having_pair(
+    alloc: Global,
+    place: usize,
+    pair: Result<(Outputs, Part), BindFault>,
+) -> Result<Selected, BindFault>
+    ensures { GoesOn (λ p. rules.with_having place p.0 p.1) pair result }
+{
+    let (outputs, part) = pair?;
+    having_behind(alloc, place, outputs, part)
+}
+
 /// HAVING behind the items; its first token stands at `place`.
 pub fn with_having(
     alloc: Global,
@@ -68,14 +112,7 @@ pub fn with_having(
 ) -> Result<Selected, BindFault>
     ensures { GoesOnBoth (rules.with_having place) outputs part result }
 {
-    let mut outputs = outputs?;
-    let part = covered(true, condition(place, part?)?)?;
-    outputs.calls.append(part.calls)?;
-    let having = conjuncts(alloc, part.tree.into_inner())?;
-    Ok(Selected {
-        outputs,
-        having: Some(having),
-    })
+    having_pair(alloc, place, both(outputs, part))
 }
 
 /// `count(DISTINCT x)` stands beside no other aggregate.
@@ -152,13 +189,24 @@ fn grouped_trees(
     list_over(alloc, list, keys, width, calls)
 }
 
-fn grouped_rows(alloc: Global, core: Core, all: Gathered) -> Result<BoundRows, OutOfMemory>
-    requires keys { length core.keys ≤ most_places }
-    requires calls { AreAmong most_places all.calls }
-    ensures { IfOk result (λ rows. rows ≡ rules.grouped_rows core all) }
+fn over_group(
+    alloc: Global,
+    core: &Core,
+    all: &Gathered,
+) -> Result<(Exprs, Option<Exprs>), OutOfMemory>
+    requires keys { length core.now.keys ≤ most_places }
+    requires calls { AreAmong most_places all.now.calls }
+    ensures { IfOk result (λ over. over ≡ (rules.grouped_trees core.now all.now core.now.selected.outputs.trees, rules.having_over core.now all.now core.now.selected.having)) }
 {
-    let items = grouped_trees(alloc, &core, &all, &core.selected.outputs.trees)?;
-    let having = having_over(alloc, &core, &all)?;
+    let items = grouped_trees(alloc, core, all, &core.selected.outputs.trees)?;
+    let having = having_over(alloc, core, all)?;
+    Ok((items, having))
+}
+
+fn rows_over(core: Core, all: Gathered, over: (Exprs, Option<Exprs>)) -> BoundRows
+    ensures { result ≡ rules.core_rows core (Some (record { keys = core.keys; aggregates = all.aggregates; having = over.1 })) over.0 }
+{
+    let (items, having) = over;
     let Core {
         sources,
         conjuncts,
@@ -166,7 +214,7 @@ fn grouped_rows(alloc: Global, core: Core, all: Gathered) -> Result<BoundRows, O
         distinct,
         ..
     } = core;
-    Ok(BoundRows::Core(BoundCore {
+    BoundRows::Core(BoundCore {
         sources,
         conjuncts,
         grouping: Some(Grouping {
@@ -176,7 +224,16 @@ fn grouped_rows(alloc: Global, core: Core, all: Gathered) -> Result<BoundRows, O
         }),
         items,
         distinct,
-    }))
+    })
+}
+
+fn grouped_rows(alloc: Global, core: Core, all: Gathered) -> Result<BoundRows, OutOfMemory>
+    requires keys { length core.keys ≤ most_places }
+    requires calls { AreAmong most_places all.calls }
+    ensures { IfOk result (λ rows. rows ≡ rules.grouped_rows core all) }
+{
+    let over = over_group(alloc, &core, &all)?;
+    Ok(rows_over(core, all, over))
 }
 
 fn named_rows(alloc: Global, core: Core, all: Gathered) -> Result<NamedRows, BindFault>
@@ -189,6 +246,14 @@ fn named_rows(alloc: Global, core: Core, all: Gathered) -> Result<NamedRows, Bin
             kind: RefusalKind::TooManyColumns,
         });
     }
+    Ok(narrow_rows(alloc, core, all)?)
+}
+
+fn narrow_rows(alloc: Global, core: Core, all: Gathered) -> Result<NamedRows, OutOfMemory>
+    requires keys { length core.keys ≤ most_places }
+    requires calls { AreAmong most_places all.calls }
+    ensures { IfOk result (λ rows. rows ≡ record { rows = rules.rows_of core all; columns = core.selected.outputs.columns }) }
+{
     let columns = core.selected.outputs.columns.clone()?;
     let rows = rows_of(alloc, core, all)?;
     Ok(NamedRows {

@@ -1,5 +1,5 @@
 //! Expressions over the row of a group: its keys, and then its aggregates.
-ghost use Rattle.std.specs.Prelude.{◌≡◌, ◌≤◌, IfOk, map, length};
+ghost use Rattle.std.specs.Prelude.{◌≡◌, ◌≤◌, ◌++◌, ◌∷◌, [], IfOk, map, length};
 ghost use Rattle.sql_expr.specs.declared.tree.Expr.TheVariants as typed;
 ghost use Rattle.sql_clauses.specs.Aggregates.{AreAmong};
 ghost use Rattle.sql_clauses.specs.Grouping as rules;
@@ -84,27 +84,48 @@ fn either(list: Result<Exprs, OutOfMemory>) -> Over
     Ok(Expr::Either { list: list? })
 }
 
+fn boxed(alloc: Global, of: Over) -> Result<Boxed<Expr>, OutOfMemory>
+    ensures { Makes (λ a. a) of result }
+{
+    Ok(Boxed::new(alloc, of?)?)
+}
+
+// Two parts that were made. What drops the one where the other is missing is proved here, once for all types.
+fn both<A: Drop, B: Drop>(
+    first: Result<A, OutOfMemory>,
+    second: Result<B, OutOfMemory>,
+) -> Result<(A, B), OutOfMemory>
+    ensures { MakesBoth (λ a b. (a, b)) first second result }
+{
+    let first = first?;
+    let second = second?;
+    Ok((first, second))
+}
+
+fn chain_of(parts: Result<(Boxed<Expr>, Links), OutOfMemory>) -> Over
+    ensures { Makes (λ p. typed.Chain p.0 p.1) parts result }
+{
+    let (first, links) = parts?;
+    Ok(Expr::Chain { first, links })
+}
+
 fn chain(alloc: Global, first: Over, links: Result<Links, OutOfMemory>) -> Over
     ensures { MakesBoth (λ a b. typed.Chain a b) first links result }
 {
-    let first = first?;
-    let links = links?;
-    Ok(Expr::Chain {
-        first: Boxed::new(alloc, first)?,
-        links,
-    })
+    chain_of(both(boxed(alloc, first), links))
+}
+
+fn comparison_of(sign: CompareSign, parts: Result<(Boxed<Expr>, Boxed<Expr>), OutOfMemory>) -> Over
+    ensures { Makes (λ p. typed.Compare sign p.0 p.1) parts result }
+{
+    let (left, right) = parts?;
+    Ok(Expr::Compare { sign, left, right })
 }
 
 fn comparison(alloc: Global, sign: CompareSign, left: Over, right: Over) -> Over
     ensures { MakesBoth (λ a b. typed.Compare sign a b) left right result }
 {
-    let left = left?;
-    let right = right?;
-    Ok(Expr::Compare {
-        sign,
-        left: Boxed::new(alloc, left)?,
-        right: Boxed::new(alloc, right)?,
-    })
+    comparison_of(sign, both(boxed(alloc, left), boxed(alloc, right)))
 }
 
 fn null_test(alloc: Global, of: Over, negated: bool) -> Over
@@ -127,14 +148,37 @@ fn like(alloc: Global, of: Over, pattern: &Text, negated: bool) -> Over
     })
 }
 
+fn one_of_parts(parts: Result<(Boxed<Expr>, Exprs), OutOfMemory>, negated: bool) -> Over
+    ensures { Makes (λ p. typed.OneOf p.0 p.1 negated) parts result }
+{
+    let (of, list) = parts?;
+    Ok(Expr::OneOf { of, list, negated })
+}
+
 fn one_of(alloc: Global, of: Over, list: Result<Exprs, OutOfMemory>, negated: bool) -> Over
     ensures { MakesBoth (λ a b. typed.OneOf a b negated) of list result }
 {
-    let of = of?;
-    let list = list?;
-    Ok(Expr::OneOf {
-        of: Boxed::new(alloc, of)?,
-        list,
+    one_of_parts(both(boxed(alloc, of), list), negated)
+}
+
+fn bounds(alloc: Global, low: Over, high: Over) -> Result<(Boxed<Expr>, Boxed<Expr>), OutOfMemory>
+    ensures { MakesBoth (λ a b. (a, b)) low high result }
+{
+    both(boxed(alloc, low), boxed(alloc, high))
+}
+
+fn between_of(
+    parts: Result<(Boxed<Expr>, (Boxed<Expr>, Boxed<Expr>)), OutOfMemory>,
+    negated: bool,
+) -> Over
+    ensures { Makes (λ p. typed.Between p.0 p.1.0 p.1.1 negated) parts result }
+{
+    let (of, bounds) = parts?;
+    let (low, high) = bounds;
+    Ok(Expr::Between {
+        of,
+        low,
+        high,
         negated,
     })
 }
@@ -142,23 +186,32 @@ fn one_of(alloc: Global, of: Over, list: Result<Exprs, OutOfMemory>, negated: bo
 fn between(alloc: Global, of: Over, low: Over, high: Over, negated: bool) -> Over
     ensures { MakesThree (λ a b d. typed.Between a b d negated) of low high result }
 {
-    let of = of?;
-    let low = low?;
-    let high = high?;
-    Ok(Expr::Between {
-        of: Boxed::new(alloc, of)?,
-        low: Boxed::new(alloc, low)?,
-        high: Boxed::new(alloc, high)?,
-        negated,
-    })
+    between_of(both(boxed(alloc, of), bounds(alloc, low, high)), negated)
+}
+
+fn item_behind<T: Drop>(
+    list: Result<Items<T>, OutOfMemory>,
+    item: Result<T, OutOfMemory>,
+) -> Result<Items<T>, OutOfMemory>
+    ensures { MakesBoth (λ list item. list ++ item ∷ []) list item result }
+{
+    let mut list = list?;
+    let item = item?;
+    list.push(item)?;
+    Ok(list)
 }
 
 fn one_more(list: Result<Exprs, OutOfMemory>, tree: Over) -> Result<Exprs, OutOfMemory>
     ensures { MakesBoth rules.with_tree list tree result }
 {
-    let mut list = list?;
-    list.push(tree?)?;
-    Ok(list)
+    item_behind(list, tree)
+}
+
+fn link(sign: ChainSign, right: Over, kind: SqlType) -> Result<Link, OutOfMemory>
+    ensures { Makes (λ right. record { sign = sign; right = right; kind = kind }) right result }
+{
+    let right = right?;
+    Ok(Link { sign, right, kind })
 }
 
 fn one_link(
@@ -169,13 +222,7 @@ fn one_link(
 ) -> Result<Links, OutOfMemory>
     ensures { MakesBoth (rules.with_link sign kind) links right result }
 {
-    let mut links = links?;
-    links.push(Link {
-        sign,
-        right: right?,
-        kind,
-    })?;
-    Ok(links)
+    item_behind(links, link(sign, right, kind))
 }
 
 /// Items, or the conjuncts of HAVING, over the row of a group.

@@ -1,9 +1,11 @@
 //! What a core shows.
-ghost use Rattle.std.specs.Prelude.{◌≡◌, ◌≤◌, IfOk, Ok, Some, None, length};
+ghost use Rattle.std.specs.Prelude.{◌≡◌, ◌≤◌, ◌++◌, ◌∷◌, [], true, IfOk, OnOk, Ok, Some, None, length};
 ghost use Rattle.sql_scope.specs.Answer.{Gives, GoesOn, GoesOnBoth};
+ghost use Rattle.sql_expr.specs.Kinds.{kind_of as of_tree};
 ghost use Rattle.sql_clauses.specs.Items as rules;
 
 use crate::names::{small_name, written_name};
+use crate::pairs::both;
 use ooc_types::{Column, OutOfMemory, RefusalKind, Schema, SqlType, Text};
 use sql_expr::{Expr, Exprs, kind_of};
 use sql_grammar::tree::Span;
@@ -94,6 +96,39 @@ fn output_name(
     }
 }
 
+fn output_column(
+    alloc: Global,
+    scope: &Scope<'_>,
+    number: usize,
+    alias: Option<Span>,
+    tree: &Expr,
+) -> Result<Column, OutOfMemory>
+    ensures { IfOk result (λ column. column ≡ record { name = rules.output_name scope.now number alias (rules.plain_column scope.now tree.now); kind = of_tree tree.now; nullable = true }) }
+{
+    let shown = plain_column(scope, tree);
+    Ok(Column {
+        name: output_name(alloc, scope, number, alias, shown)?,
+        kind: kind_of(tree),
+        nullable: true,
+    })
+}
+
+// Through a reference: where memory runs out nothing of the outputs is dropped here.
+fn add_output(
+    outputs: &mut Outputs,
+    column: Column,
+    shown: Option<u32>,
+    part: Part,
+) -> Result<(), OutOfMemory>
+    ensures { OnOk result (outputs.new ≡ record { trees = outputs.old.trees ++ part.tree ∷ []; columns = outputs.old.columns ++ column ∷ []; plain = outputs.old.plain ++ shown ∷ []; calls = outputs.old.calls ++ part.calls }) }
+{
+    outputs.columns.push(column)?;
+    outputs.plain.push(shown)?;
+    outputs.trees.push(part.tree.into_inner())?;
+    outputs.calls.append(part.calls)?;
+    Ok(())
+}
+
 fn with_output(
     alloc: Global,
     scope: &Scope<'_>,
@@ -103,18 +138,26 @@ fn with_output(
 ) -> Result<Outputs, BindFault>
     ensures { Gives (rules.with_output scope.now alias outputs part) result }
 {
-    let mut outputs = outputs;
-    let shown = plain_column(scope, part.tree.get());
     let number = outputs.trees.as_slice().len() + 1;
-    outputs.columns.push(Column {
-        name: output_name(alloc, scope, number, alias, shown)?,
-        kind: kind_of(part.tree.get()),
-        nullable: true,
-    })?;
-    outputs.plain.push(shown)?;
-    outputs.trees.push(part.tree.into_inner())?;
-    outputs.calls.append(part.calls)?;
+    let column = output_column(alloc, scope, number, alias, part.tree.get())?;
+    let shown = plain_column(scope, part.tree.get());
+    let mut outputs = outputs;
+    add_output(&mut outputs, column, shown, part)?;
     Ok(outputs)
+}
+
+fn value_pair(
+    alloc: Global,
+    scope: &Scope<'_>,
+    grouped: bool,
+    alias: Option<Span>,
+    pair: Result<(Outputs, Part), BindFault>,
+) -> Result<Outputs, BindFault>
+    ensures { GoesOn (λ p. rules.value_item scope.now grouped alias p.0 p.1) pair result }
+{
+    let (outputs, part) = pair?;
+    let part = covered(grouped, part)?;
+    with_output(alloc, scope, alias, outputs, part)
 }
 
 /// An expression behind the items before it.
@@ -128,9 +171,7 @@ pub fn value_item(
 ) -> Result<Outputs, BindFault>
     ensures { GoesOnBoth (rules.value_item scope.now grouped alias) outputs part result }
 {
-    let outputs = outputs?;
-    let part = covered(grouped, part?)?;
-    with_output(alloc, scope, alias, outputs, part)
+    value_pair(alloc, scope, grouped, alias, both(outputs, part))
 }
 
 fn column_item(

@@ -13,6 +13,7 @@ mod membership;
 mod names;
 mod numbers;
 mod order;
+mod pairs;
 mod places;
 mod rows;
 mod sets;

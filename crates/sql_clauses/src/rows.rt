@@ -1,12 +1,16 @@
 //! Rows before their order, set operations over them, and the whole SELECT.
-ghost use Rattle.std.specs.Prelude.{◌≡◌};
+ghost use Rattle.std.specs.Prelude.{◌≡◌, IfOk};
 ghost use Rattle.sql_scope.specs.Answer.{Gives, GoesOn, GoesOnBoth};
+ghost use Rattle.bound_tree.specs.declared.select.BoundRows.TheVariants.{Set as SetRows};
+ghost use Rattle.sql_clauses.specs.Sets as kinds;
 ghost use Rattle.sql_clauses.specs.Rows as rules;
 
 use crate::cores::{Core, NamedRows, finished};
 use crate::order::cut;
+use crate::pairs::both;
 use crate::sets::{common_columns, types_of};
 use bound_tree::{BoundRows, BoundSelect, Cut, SetKind};
+use ooc_types::{Column, OutOfMemory};
 use sql_expr::Exprs;
 use sql_grammar::tree;
 use sql_grammar::tree::{Key, Span};
@@ -41,6 +45,48 @@ fn set_kind(kind: tree::SetKind) -> SetKind
     }
 }
 
+fn set_rows(
+    alloc: Global,
+    kind: SetKind,
+    all: bool,
+    left: Boxed<BoundRows>,
+    right: Boxed<BoundRows>,
+    columns: &[Column],
+) -> Result<Boxed<BoundRows>, OutOfMemory>
+    ensures { IfOk result (λ rows. rows ≡ SetRows kind all left right (kinds.types_of columns.now)) }
+{
+    let kinds = types_of(alloc, columns)?;
+    let rows = BoundRows::Set {
+        kind,
+        all,
+        left,
+        right,
+        kinds,
+    };
+    Ok(Boxed::new(alloc, rows)?)
+}
+
+fn combined_pair(
+    alloc: Global,
+    kind: tree::SetKind,
+    all: bool,
+    place: usize,
+    pair: Result<(NamedRows, NamedRows), BindFault>,
+) -> Result<NamedRows, BindFault>
+    ensures { GoesOn (λ p. rules.combined kind all place p.0 p.1) pair result }
+{
+    let (left, right) = pair?;
+    let columns = common_columns(
+        alloc,
+        place,
+        left.columns.as_slice(),
+        right.columns.as_slice(),
+    )?;
+    let kind = set_kind(kind);
+    let rows = set_rows(alloc, kind, all, left.rows, right.rows, columns.as_slice())?;
+    Ok(NamedRows { rows, columns })
+}
+
 /// A set operation, whose second operand begins at `place`.
 pub fn combined(
     alloc: Global,
@@ -52,26 +98,7 @@ pub fn combined(
 ) -> Result<NamedRows, BindFault>
     ensures { GoesOnBoth (rules.combined kind all place) left right result }
 {
-    let left = left?;
-    let right = right?;
-    let columns = common_columns(
-        alloc,
-        place,
-        left.columns.as_slice(),
-        right.columns.as_slice(),
-    )?;
-    let kinds = types_of(alloc, columns.as_slice())?;
-    let rows = BoundRows::Set {
-        kind: set_kind(kind),
-        all,
-        left: left.rows,
-        right: right.rows,
-        kinds,
-    };
-    Ok(NamedRows {
-        rows: Boxed::new(alloc, rows)?,
-        columns,
-    })
+    combined_pair(alloc, kind, all, place, both(left, right))
 }
 
 fn cut_rows(
@@ -127,6 +154,32 @@ pub fn operand(alloc: Global, rows: Result<Unordered, BindFault>) -> Result<Name
     finished_rows(alloc, rows?)
 }
 
+fn select_with(
+    alloc: Global,
+    cut: Option<Cut>,
+    rows: NamedRows,
+) -> Result<Boxed<BoundSelect>, BindFault>
+    ensures { Gives (rules.select_with cut rows) result }
+{
+    let NamedRows { rows, columns } = rows;
+    Ok(Boxed::new(alloc, BoundSelect { rows, columns, cut })?)
+}
+
+fn select_rows(
+    alloc: Global,
+    scope: &Scope<'_>,
+    rows: Unordered,
+    order: &[Key],
+    limit: Option<Span>,
+    offset: Option<Span>,
+) -> Result<Boxed<BoundSelect>, BindFault>
+    ensures { Gives (rules.select_of scope.now order.now limit offset rows) result }
+{
+    let cut = cut_rows(alloc, scope, &rows, order, limit, offset)?;
+    let rows = finished_rows(alloc, rows)?;
+    select_with(alloc, cut, rows)
+}
+
 /// Rows with their order and its cut.
 pub fn select(
     alloc: Global,
@@ -138,9 +191,5 @@ pub fn select(
 ) -> Result<Boxed<BoundSelect>, BindFault>
     ensures { GoesOn (rules.select_of scope.now order.now limit offset) rows result }
 {
-    let rows = rows?;
-    let cut = cut_rows(alloc, scope, &rows, order, limit, offset)?;
-    let NamedRows { rows, columns } = finished_rows(alloc, rows)?;
-    let select = BoundSelect { rows, columns, cut };
-    Ok(Boxed::new(alloc, select)?)
+    select_rows(alloc, scope, rows?, order, limit, offset)
 }

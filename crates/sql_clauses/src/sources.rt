@@ -1,9 +1,11 @@
 //! The sources of FROM, once each one's columns are known.
-ghost use Rattle.std.specs.Prelude.{◌≡◌, ◌++◌, IfOk, Ok};
+ghost use Rattle.std.specs.Prelude.{◌≡◌, ◌++◌, ◌∷◌, [], IfOk, Ok};
 ghost use Rattle.sql_scope.specs.Answer.{Gives, GoesOn, GoesOnBoth};
+ghost use Rattle.sql_scope.specs.Texts.{folded};
 ghost use Rattle.sql_clauses.specs.Sources as rules;
 
 use crate::names::{small_name, written_name};
+use crate::pairs::both;
 use crate::sets::types_of;
 use crate::tables::MOST_COLUMNS;
 use bound_tree::{BoundSelect, BoundSource, JoinKind, SourceRows};
@@ -106,6 +108,35 @@ fn a_source(
     })
 }
 
+fn columns_behind(
+    alloc: Global,
+    name: &[u8],
+    columns: &[Column],
+    before: Items<ScopeColumn>,
+) -> Result<Items<ScopeColumn>, OutOfMemory>
+    ensures { IfOk result (λ all. all ≡ before ++ rules.scope_columns (folded name.now) columns.now) }
+{
+    let small = small_letters(alloc, name)?;
+    let all = with_columns(alloc, small.as_slice(), columns, before)?;
+    Ok(all)
+}
+
+fn list_behind(
+    alloc: Global,
+    name: Text,
+    join: JoinKind,
+    rows: SourceRows,
+    columns: &[Column],
+    before: Items<BoundSource>,
+) -> Result<Items<BoundSource>, OutOfMemory>
+    ensures { IfOk result (λ list. list ≡ before ++ rules.a_source name join rows columns.now ∷ []) }
+{
+    let source = a_source(alloc, name, join, rows, columns)?;
+    let mut list = before;
+    list.push(source)?;
+    Ok(list)
+}
+
 fn with_source(
     alloc: Global,
     place: usize,
@@ -118,15 +149,26 @@ fn with_source(
     ensures { Gives (Ok (rules.with_source place name join rows columns.now sources)) result }
 {
     let ninth = ninth_of(place, &sources);
-    let small = small_letters(alloc, name.as_bytes())?;
-    let mut list = sources.list;
-    list.push(a_source(alloc, name, join, rows, columns)?)?;
-    let columns = with_columns(alloc, small.as_slice(), columns, sources.columns)?;
+    let Sources {
+        list,
+        columns: before,
+        ..
+    } = sources;
+    let behind = columns_behind(alloc, name.as_bytes(), columns, before)?;
+    let list = list_behind(alloc, name, join, rows, columns, list)?;
     Ok(Sources {
         list,
-        columns,
+        columns: behind,
         ninth,
     })
+}
+
+fn is_taken(alloc: Global, name: &[u8], sources: &[BoundSource]) -> Result<bool, OutOfMemory>
+    ensures { IfOk result (λ taken. taken ≡ rules.has_source (folded name.now) sources.now) }
+{
+    let small = small_letters(alloc, name)?;
+    let taken = has_source(alloc, small.as_slice(), sources)?;
+    Ok(taken)
 }
 
 fn source_behind(
@@ -141,8 +183,7 @@ fn source_behind(
 ) -> Result<Sources, BindFault>
     ensures { Gives (rules.source_behind place at name join rows columns.now sources) result }
 {
-    let small = small_letters(alloc, name.as_bytes())?;
-    if has_source(alloc, small.as_slice(), sources.list.as_slice())? {
+    if is_taken(alloc, name.as_bytes(), sources.list.as_slice())? {
         return Err(BindFault::Refused {
             place: at,
             kind: RefusalKind::DuplicateName,
@@ -223,6 +264,46 @@ pub fn table_source(
     add_table(alloc, scope, join, name, alias, sources?)
 }
 
+fn query_behind(
+    alloc: Global,
+    scope: &Scope<'_>,
+    join: JoinKind,
+    place: usize,
+    alias: Span,
+    sources: Sources,
+    query: Boxed<BoundSelect>,
+) -> Result<Sources, BindFault>
+    ensures { Gives (rules.query_source scope.now join place alias sources query) result }
+{
+    let name = written_name(alloc, scope, alias)?;
+    let columns = query.get().columns.clone()?;
+    let rows = SourceRows::Query(query);
+    source_behind(
+        alloc,
+        place,
+        alias.start,
+        name,
+        join,
+        rows,
+        columns.as_slice(),
+        sources,
+    )
+}
+
+fn query_pair(
+    alloc: Global,
+    scope: &Scope<'_>,
+    join: JoinKind,
+    place: usize,
+    alias: Span,
+    pair: Result<(Sources, Boxed<BoundSelect>), BindFault>,
+) -> Result<Sources, BindFault>
+    ensures { GoesOn (λ p. rules.query_source scope.now join place alias p.0 p.1) pair result }
+{
+    let (sources, query) = pair?;
+    query_behind(alloc, scope, join, place, alias, sources, query)
+}
+
 /// A subquery behind the sources before it; its parenthesis stands at `place`.
 pub fn query_source(
     alloc: Global,
@@ -235,21 +316,7 @@ pub fn query_source(
 ) -> Result<Sources, BindFault>
     ensures { GoesOnBoth (rules.query_source scope.now join place alias) sources query result }
 {
-    let sources = sources?;
-    let query = query?;
-    let columns = query.get().columns.clone()?;
-    let rows = SourceRows::Query(query);
-    let name = written_name(alloc, scope, alias)?;
-    source_behind(
-        alloc,
-        place,
-        alias.start,
-        name,
-        join,
-        rows,
-        columns.as_slice(),
-        sources,
-    )
+    query_pair(alloc, scope, join, place, alias, both(sources, query))
 }
 
 fn few_sources(sources: Sources) -> Result<Sources, BindFault>
