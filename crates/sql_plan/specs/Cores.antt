@@ -1,5 +1,5 @@
 -- What stands above a FROM, over columns at their places afterwards.
-use Rattle.std.specs.Prelude.{ℕ, List, map, Option, Some, None}
+use Rattle.std.specs.Prelude.{ℕ, Bool, List, map, Option, Some, None}
 use Rattle.std.specs.Option.{option_map}
 use Rattle.std.specs.List.{filter_map}
 use Rattle.sql_expr.specs.declared.tree.Expr.{Expr}
@@ -37,6 +37,20 @@ grouping_by places grouping =
 abbrev pub items_by : Places → Option Grouping → List Expr → List Expr
 items_by places None items = map (moved_by places) items
 items_by places (Some grouping) items = items
+
+-- the grouping and the items of a core
+abbrev pub top_by : Places → BoundCore → Option Grouping × List Expr
+top_by places core = (option_map (grouping_by places) (out-BoundCore core).grouping, items_by places (out-BoundCore core).grouping (out-BoundCore core).items)
+
+abbrev pub core_with : FromPlan → Bool → List PlanConjunct → (Option Grouping × List Expr) → PlanCore
+core_with from distinct others top = roll-PlanCore (record {
+  sources = from.sources;
+  plain = from.plain;
+  others = others;
+  grouping = top.0;
+  items = top.1;
+  distinct = distinct;
+})
 
 abbrev pub core_by : FromPlan → List PlanConjunct → BoundCore → PlanCore
 core_by from others core = roll-PlanCore (record {

@@ -8,7 +8,7 @@ ghost use Rattle.plan_tree.specs.Split.{split_on as divided};
 ghost use Rattle.plan_tree.specs.Plannable.{columns_of_source};
 ghost use Rattle.sql_plan.specs.Chosen.{columns_limit};
 ghost use Rattle.sql_plan.specs.Conjuncts.{parts_of};
-ghost use Rattle.sql_plan.specs.Cores.{aggregate_by, grouping_by, items_by, core_by, written_stage as stage_of_source, written_from as from_of};
+ghost use Rattle.sql_plan.specs.Cores.{aggregate_by, grouping_by, items_by, core_by, core_with, top_by, written_stage as stage_of_source, written_from as from_of};
 ghost use Rattle.sql_plan.specs.Places.{moved_by};
 ghost use Rattle.sql_plan.specs.Steps.{GoesOn, GoesOnBoth};
 
@@ -17,6 +17,7 @@ use crate::moves::{move_expr, move_list};
 use crate::places::Places;
 use crate::sources::{is_padded, plain_conjuncts, width_of};
 use crate::split::{Parts, split_on};
+use crate::steps::both;
 use bound_tree::{Aggregate, BoundCore, BoundSource, Conjunct, Cut, Grouping, SetKind};
 use ooc_types::{OutOfMemory, Schema, Text};
 use plan_tree::{PlanConjunct, PlanCore, PlanInput, PlanRows, PlanSelect, PlanSource};
@@ -104,18 +105,27 @@ fn move_items(
     }
 }
 
-/// A core over its FROM and the conjuncts that are left in WHERE and aren't plain.
-pub(crate) fn core_over(
+fn top_over(
     alloc: Global,
-    from: FromPlan,
-    others: Result<Items<PlanConjunct>, OutOfMemory>,
+    places: &Places,
     core: &BoundCore,
-) -> Result<PlanCore, OutOfMemory>
-    ensures { GoesOn (λ others. core_by from others core.now) others result }
+) -> Result<(Option<Grouping>, Exprs), OutOfMemory>
+    ensures { IfOk result (λ top. top ≡ top_by places.now core.now) }
 {
-    let others = others?;
-    let grouping = move_grouping(alloc, &from.places, &core.grouping)?;
-    let items = move_items(alloc, &from.places, &core.grouping, core.items.as_slice())?;
+    let grouping = move_grouping(alloc, places, &core.grouping)?;
+    let items = move_items(alloc, places, &core.grouping, core.items.as_slice())?;
+    Ok((grouping, items))
+}
+
+fn core_of(
+    from: FromPlan,
+    parts: Result<(Items<PlanConjunct>, (Option<Grouping>, Exprs)), OutOfMemory>,
+    distinct: bool,
+) -> Result<PlanCore, OutOfMemory>
+    ensures { GoesOn (λ p. core_with from distinct p.0 p.1) parts result }
+{
+    let (others, top) = parts?;
+    let (grouping, items) = top;
     let FromPlan {
         places: _,
         sources,
@@ -127,8 +137,21 @@ pub(crate) fn core_over(
         others,
         grouping,
         items,
-        distinct: core.distinct,
+        distinct,
     })
+}
+
+/// A core over its FROM and the conjuncts that are left in WHERE and aren't plain.
+pub(crate) fn core_over(
+    alloc: Global,
+    from: FromPlan,
+    others: Result<Items<PlanConjunct>, OutOfMemory>,
+    core: &BoundCore,
+) -> Result<PlanCore, OutOfMemory>
+    ensures { GoesOn (λ others. core_by from others core.now) others result }
+{
+    let top = top_over(alloc, &from.places, core);
+    core_of(from, both(others, top), core.distinct)
 }
 
 /// A FROM in written order.
@@ -223,6 +246,31 @@ pub(crate) fn core_rows(core: Result<PlanCore, OutOfMemory>) -> Result<PlanRows,
     Ok(PlanRows::Core(core?))
 }
 
+fn boxed_rows(
+    alloc: Global,
+    rows: Result<PlanRows, OutOfMemory>,
+) -> Result<Boxed<PlanRows>, OutOfMemory>
+    ensures { GoesOn (λ rows. rows) rows result }
+{
+    Ok(Boxed::new(alloc, rows?)?)
+}
+
+fn set_of(
+    kind: SetKind,
+    all: bool,
+    parts: Result<(Boxed<PlanRows>, Boxed<PlanRows>), OutOfMemory>,
+) -> Result<PlanRows, OutOfMemory>
+    ensures { GoesOn (λ p. roll-PlanRows (PlanRows-F.Set kind all p.0 p.1)) parts result }
+{
+    let (left, right) = parts?;
+    Ok(PlanRows::Set {
+        kind,
+        all,
+        left,
+        right,
+    })
+}
+
 pub(crate) fn set_rows(
     alloc: Global,
     kind: SetKind,
@@ -232,14 +280,11 @@ pub(crate) fn set_rows(
 ) -> Result<PlanRows, OutOfMemory>
     ensures { GoesOnBoth (λ left right. roll-PlanRows (PlanRows-F.Set kind all left right)) left right result }
 {
-    let left = Boxed::new(alloc, left?)?;
-    let right = Boxed::new(alloc, right?)?;
-    Ok(PlanRows::Set {
+    set_of(
         kind,
         all,
-        left,
-        right,
-    })
+        both(boxed_rows(alloc, left), boxed_rows(alloc, right)),
+    )
 }
 
 fn copy_cut(alloc: Global, cut: &Option<Cut>) -> Result<Option<Cut>, OutOfMemory>

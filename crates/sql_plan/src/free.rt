@@ -1,14 +1,16 @@
 //! A free FROM: its tables in the order of the plan, with the conjuncts that act at each.
-ghost use Rattle.std.specs.Prelude.{◌≡◌, ◌+◌, ◌<◌, ◌^◌, true, is_some, IfOk, IfSome, map, filter, not, [], length, slice_index_or};
+ghost use Rattle.std.specs.Prelude.{◌≡◌, ◌+◌, ◌<◌, ◌^◌, true, false, is_some, IfOk, IfSome, map, filter, not, [], length, slice_index_or};
 ghost use Rattle.std.specs.List.{list_all, filter_map};
 ghost use Rattle.plan_tree.specs.Plannable.{columns_of_sources};
 ghost use Rattle.plan_tree.specs.Split.{linked_columns as linked_by};
 ghost use Rattle.plan_tree.specs.FreeFrom.{names_columns as names};
-ghost use Rattle.sql_plan.specs.Chosen.{columns_limit, columns_chosen};
+ghost use Rattle.plan_tree.specs.Order.{picks};
+ghost use Rattle.sql_plan.specs.Chosen.{columns_limit, columns_chosen, chosen_of, places_of_chosen};
 ghost use Rattle.sql_plan.specs.Counted.{counts_in};
 ghost use Rattle.sql_plan.specs.Places.{moved_by};
+ghost use Rattle.sql_plan.specs.declared.places.Places.TheVariants.{Moved};
 ghost use Rattle.sql_plan.specs.Sources.{is_free_source as is_free_one, table_name};
-ghost use Rattle.sql_plan.specs.Stages.{table_stage as stage_of_table, free_stage as free_stage_of, free_stages as stages_of, free_from as from_of, is_named};
+ghost use Rattle.sql_plan.specs.Stages.{table_stage as stage_of_table, free_stage as free_stage_of, free_stages as stages_of, free_from as from_of, bound_entries, is_named};
 ghost use Rattle.bound_tree.specs.declared.select.BoundRows.TheViews.{out-BoundSource};
 
 use crate::counts::TableCount;
@@ -149,6 +151,49 @@ fn free_stages(
     Ok(stages)
 }
 
+// The tables in the plan's order, by the equalities of the pool.
+fn chosen_by(
+    alloc: Global,
+    counts: &[TableCount],
+    sources: &[BoundSource],
+    pool: &[Expr],
+) -> Result<Items<Chosen>, OutOfMemory>
+    requires { columns_of_sources sources.now < columns_limit }
+    ensures { IfOk result (λ chosen. chosen ≡ map chosen_of (picks (length (bound_entries (counts_in counts.now) sources.now)) (filter_map linked_by pool.now) [] (bound_entries (counts_in counts.now) sources.now))) }
+{
+    let links = equalities(alloc, pool)?;
+    let entries = entries(alloc, counts, sources)?;
+    choose(alloc, links.as_slice(), entries)
+}
+
+// The stages of these tables, and the conjuncts that name no columns.
+fn from_chosen(
+    alloc: Global,
+    first: &BoundSource,
+    sources: &[BoundSource],
+    chosen: &[Chosen],
+    pool: &[Expr],
+) -> Result<FromPlan, OutOfMemory>
+    requires free { list_all is_free_one sources.now ≡ true }
+    requires free_first { is_free_one first.now ≡ true }
+    requires columns { columns_chosen chosen.now < columns_limit }
+    ensures { IfOk result (λ from. from ≡ record {
+      places = Moved (places_of_chosen 0 chosen.now);
+      sources = stages_of first.now sources.now 0 0 chosen.now (map (moved_by (Moved (places_of_chosen 0 chosen.now))) (filter (is_named true) pool.now));
+      plain = map (moved_by (Moved (places_of_chosen 0 chosen.now))) (filter (is_named false) pool.now);
+    }) }
+{
+    let places = Places::Moved(places(alloc, 0, chosen)?);
+    let named = moved_conjuncts(alloc, &places, true, pool)?;
+    let sources = free_stages(alloc, first, sources, chosen, named.as_slice())?;
+    let plain = moved_conjuncts(alloc, &places, false, pool)?;
+    Ok(FromPlan {
+        places,
+        sources,
+        plain,
+    })
+}
+
 /// A free FROM.
 pub(crate) fn free_from(
     alloc: Global,
@@ -163,16 +208,6 @@ pub(crate) fn free_from(
     ensures { IfOk result (λ from. from ≡ from_of (counts_in counts.now) first.now sources.now conjuncts.now) }
 {
     let pool = pool(alloc, sources, conjuncts)?;
-    let links = equalities(alloc, pool.as_slice())?;
-    let entries = entries(alloc, counts, sources)?;
-    let chosen = choose(alloc, links.as_slice(), entries)?;
-    let places = Places::Moved(places(alloc, 0, chosen.as_slice())?);
-    let named = moved_conjuncts(alloc, &places, true, pool.as_slice())?;
-    let sources = free_stages(alloc, first, sources, chosen.as_slice(), named.as_slice())?;
-    let plain = moved_conjuncts(alloc, &places, false, pool.as_slice())?;
-    Ok(FromPlan {
-        places,
-        sources,
-        plain,
-    })
+    let chosen = chosen_by(alloc, counts, sources, pool.as_slice())?;
+    from_chosen(alloc, first, sources, chosen.as_slice(), pool.as_slice())
 }

@@ -95,6 +95,7 @@ pub(crate) fn move_expr(alloc: Global, places: &Places, expr: &Expr) -> Result<E
             alloc,
             move_expr(alloc, places, of.get()),
             bounds(
+                alloc,
                 move_expr(alloc, places, low.get()),
                 move_expr(alloc, places, high.get()),
             ),

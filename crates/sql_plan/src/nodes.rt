@@ -5,6 +5,7 @@ ghost use Rattle.sql_plan.specs.Places.{moved_by};
 ghost use Rattle.sql_plan.specs.Steps.{GoesOn, GoesOnBoth};
 
 use crate::places::Places;
+use crate::steps::both;
 use ooc_types::{OutOfMemory, SqlType, Text, Value};
 use sql_expr::{CompareSign, Expr, Exprs, Links};
 use sqlite_items::Boxed;
@@ -81,6 +82,16 @@ pub(crate) fn chain(
     Ok(Expr::Chain { first, links })
 }
 
+fn comparison_of(
+    sign: CompareSign,
+    parts: Result<(Boxed<Expr>, Boxed<Expr>), OutOfMemory>,
+) -> Result<Expr, OutOfMemory>
+    ensures { GoesOn (λ p. tree.Compare sign p.0 p.1) parts result }
+{
+    let (left, right) = parts?;
+    Ok(Expr::Compare { sign, left, right })
+}
+
 pub(crate) fn comparison(
     alloc: Global,
     sign: CompareSign,
@@ -89,9 +100,7 @@ pub(crate) fn comparison(
 ) -> Result<Expr, OutOfMemory>
     ensures { GoesOnBoth (tree.Compare sign) left right result }
 {
-    let left = boxed(alloc, left)?;
-    let right = boxed(alloc, right)?;
-    Ok(Expr::Compare { sign, left, right })
+    comparison_of(sign, both(boxed(alloc, left), boxed(alloc, right)))
 }
 
 pub(crate) fn null_test(
@@ -136,32 +145,38 @@ pub(crate) fn one_of(
 }
 
 pub(crate) fn bounds(
+    alloc: Global,
     low: Result<Expr, OutOfMemory>,
     high: Result<Expr, OutOfMemory>,
-) -> Result<(Expr, Expr), OutOfMemory>
+) -> Result<(Boxed<Expr>, Boxed<Expr>), OutOfMemory>
     ensures { GoesOnBoth (λ low high. (low, high)) low high result }
 {
-    let low = low?;
-    let high = high?;
-    Ok((low, high))
+    both(boxed(alloc, low), boxed(alloc, high))
 }
 
-pub(crate) fn between(
-    alloc: Global,
-    of: Result<Expr, OutOfMemory>,
-    bounds: Result<(Expr, Expr), OutOfMemory>,
+fn between_of(
+    parts: Result<(Boxed<Expr>, (Boxed<Expr>, Boxed<Expr>)), OutOfMemory>,
     negated: bool,
 ) -> Result<Expr, OutOfMemory>
-    ensures { GoesOnBoth (λ of bounds. tree.Between of bounds.0 bounds.1 negated) of bounds result }
+    ensures { GoesOn (λ p. tree.Between p.0 p.1.0 p.1.1 negated) parts result }
 {
-    let of = boxed(alloc, of)?;
-    let (low, high) = bounds?;
-    let low = Boxed::new(alloc, low)?;
-    let high = Boxed::new(alloc, high)?;
+    let (of, bounds) = parts?;
+    let (low, high) = bounds;
     Ok(Expr::Between {
         of,
         low,
         high,
         negated,
     })
+}
+
+pub(crate) fn between(
+    alloc: Global,
+    of: Result<Expr, OutOfMemory>,
+    bounds: Result<(Boxed<Expr>, Boxed<Expr>), OutOfMemory>,
+    negated: bool,
+) -> Result<Expr, OutOfMemory>
+    ensures { GoesOnBoth (λ of bounds. tree.Between of bounds.0 bounds.1 negated) of bounds result }
+{
+    between_of(both(boxed(alloc, of), bounds), negated)
 }

@@ -11,14 +11,14 @@ use std::alloc::Global;
 
 /// A table of FROM in the plan's order, and how many of the columns that stand behind it in that order stand before it
 /// in FROM.
-#[derive(Clone, Copy, Debug, PartialEq, Eq)]
+#[derive(Clone, Copy)]
 pub(crate) struct Chosen {
     pub entry: Entry,
     pub before: u32,
 }
 
 // A table, and its place among those that are left.
-#[derive(Clone, Copy, Debug, PartialEq, Eq)]
+#[derive(Clone, Copy)]
 struct Choice {
     place: usize,
     entry: Entry,
@@ -182,6 +182,23 @@ fn back(alloc: Global, places: &[u32], count: u32) -> Result<Items<u32>, OutOfMe
     Ok(Items::from_slice(alloc, &places[cut..])?)
 }
 
+// The places from `at` to `end`, put behind as many of the later ones.
+fn with_range(
+    alloc: Global,
+    later: &[u32],
+    before: u32,
+    at: u32,
+    end: u32,
+) -> Result<Items<u32>, OutOfMemory>
+    requires { at ≤ end }
+    ensures { IfOk result (λ all. all ≡ take before later.now ++ (range_with_len at (end - at) ++ drop before later.now)) }
+{
+    let mut all = front(alloc, later, before)?;
+    add_range(&mut all, at, end)?;
+    all.append(back(alloc, later, before)?)?;
+    Ok(all)
+}
+
 /// Where the written columns stand in the plan's row, whose first column here is this one.
 pub(crate) fn places(alloc: Global, at: u32, chosen: &[Chosen]) -> Result<Items<u32>, OutOfMemory>
     requires { at + columns_chosen chosen.now < columns_limit }
@@ -192,11 +209,7 @@ pub(crate) fn places(alloc: Global, at: u32, chosen: &[Chosen]) -> Result<Items<
         [one, more @ ..] => {
             let end = at + one.entry.width;
             let later = places(alloc, end, more)?;
-            let mut all = front(alloc, later.as_slice(), one.before)?;
-            add_range(&mut all, at, end)?;
-            let behind = back(alloc, later.as_slice(), one.before)?;
-            all.append(behind)?;
-            Ok(all)
+            with_range(alloc, later.as_slice(), one.before, at, end)
         }
     }
 }

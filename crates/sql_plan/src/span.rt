@@ -7,7 +7,7 @@ ghost use Rattle.sql_plan.specs.Spans.{span_of, wider as widened};
 use sql_expr::{Expr, Link};
 
 /// The first and the last of some columns.
-#[derive(Clone, Copy, Debug, PartialEq, Eq)]
+#[derive(Clone, Copy)]
 pub(crate) struct Span {
     pub first: u32,
     pub last: u32,
