@@ -1,6 +1,7 @@
 //! Conditions, and the conjuncts of WHERE.
 ghost use Rattle.std.specs.Prelude.{◌≡◌, ◌++◌, ◌∷◌, ◌&&◌, [], IfOk, Ok};
 ghost use Rattle.sql_scope.specs.Answer.{Gives, GoesOn, GoesOnBoth};
+ghost use Rattle.ooc_types.specs.declared.schema.SqlType.TheVariants.{Boolean};
 ghost use Rattle.sql_scope.specs.Operations as types;
 ghost use Rattle.sql_clauses.specs.Conditions as rules;
 
@@ -89,15 +90,16 @@ pub fn begun(alloc: Global, operand: Result<FilterOperand, BindFault>) -> Result
     Ok(Filter { conjuncts, kind })
 }
 
-fn with_conjunct(
-    conjuncts: Items<Conjunct>,
-    conjunct: Conjunct,
-) -> Result<Items<Conjunct>, OutOfMemory>
-    ensures { IfOk result (λ all. all ≡ conjuncts ++ conjunct ∷ []) }
+fn with_operand(filter: Filter, operand: FilterOperand) -> Result<Filter, OutOfMemory>
+    ensures { IfOk result (λ all. all ≡ record { conjuncts = filter.conjuncts ++ operand.conjunct ∷ []; kind = Boolean }) }
 {
-    let mut conjuncts = conjuncts;
+    let FilterOperand { conjunct, .. } = operand;
+    let Filter { mut conjuncts, .. } = filter;
     conjuncts.push(conjunct)?;
-    Ok(conjuncts)
+    Ok(Filter {
+        conjuncts,
+        kind: SqlType::Boolean,
+    })
 }
 
 fn are_conditions(left: SqlType, right: SqlType) -> bool
@@ -116,10 +118,7 @@ fn joined_pair(
     if !are_conditions(filter.kind, operand.kind) {
         return Err(mismatch(place));
     }
-    Ok(Filter {
-        conjuncts: with_conjunct(filter.conjuncts, operand.conjunct)?,
-        kind: SqlType::Boolean,
-    })
+    Ok(with_operand(filter, operand)?)
 }
 
 /// One more operand, behind an AND at this place.
