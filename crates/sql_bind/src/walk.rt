@@ -406,7 +406,7 @@ fn bind_having(
     match having {
         Some(condition) => {
             let part = bind_expr(alloc, scope, condition.test.get());
-            with_having(alloc, condition.place, outputs, part)
+            with_having(condition.place, outputs, part)
         }
         None => without_having(outputs),
     }

@@ -15,20 +15,20 @@ use Rattle.sql_clauses.specs.declared.cores.Core.{Core}
 use Rattle.sql_clauses.specs.declared.cores.NamedRows.{NamedRows}
 use Rattle.sql_clauses.specs.Aggregates.{are_unmixed, first_call, gathered}
 use Rattle.sql_clauses.specs.Conditions.{condition, conjuncts}
-use Rattle.sql_clauses.specs.Grouping.{group_place, list_over}
+use Rattle.sql_clauses.specs.Grouping.{group_place, list_over, over_group}
 use Rattle.sql_clauses.specs.Items.{covered}
 use Rattle.sql_clauses.specs.Tables.{most_columns}
 
 abbrev pub without_having : Outputs → Answer Selected
 without_having outputs = Ok (record { outputs = outputs; having = None })
 
-abbrev pub with_conjuncts : Outputs → Part → Answer Selected
-with_conjuncts outputs part =
-    Ok (record { outputs = record outputs { calls = outputs.calls ++ part.calls }; having = Some (conjuncts part.tree) })
+abbrev pub with_test : Outputs → Part → Answer Selected
+with_test outputs part =
+    Ok (record { outputs = record outputs { calls = outputs.calls ++ part.calls }; having = Some part.tree })
 
 -- HAVING behind the items: it is BOOLEAN, and then its columns are covered
 abbrev pub with_having : ℕ → Outputs → Part → Answer Selected
-with_having place outputs part = condition place part >>= (λ test. covered true test >>= with_conjuncts outputs)
+with_having place outputs part = condition place part >>= (λ test. covered true test >>= with_test outputs)
 
 -- `count(DISTINCT x)` stands alone: asked once the items and HAVING are bound
 abbrev pub unmixed : Selected → Answer Selected
@@ -61,9 +61,10 @@ core_rows core grouping items = CoreRows (roll-BoundCore (record {
 abbrev pub plain_rows : Core → BoundRows
 plain_rows core = core_rows core None core.selected.outputs.trees
 
-abbrev pub having_over : Core → Gathered → Option (List Tree) → Option (List Tree)
+-- HAVING over the row of a group, and then the operands of its outermost AND: an AND that is a key is its column
+abbrev pub having_over : Core → Gathered → Option Tree → Option (List Tree)
 having_over core all None = None
-having_over core all (Some having) = Some (grouped_trees core all having)
+having_over core all (Some having) = Some (conjuncts (over_group core.keys (group_place (length core.keys) (length core.columns) all.calls) having))
 
 abbrev pub grouped_rows : Core → Gathered → BoundRows
 grouped_rows core all =

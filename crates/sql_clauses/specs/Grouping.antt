@@ -64,7 +64,7 @@ regrouped_link_step l = record {
   over = roll-Link (record { sign = l.sign; right = l.right.over; kind = l.kind });
 }
 
--- an item, or a conjunct of HAVING, over the row of a group
+-- an item, or HAVING, over the row of a group
 abbrev pub over_group : List Tree → (ℕ → ℕ) → Tree → Tree
 over_group keys place_of tree = (fold-Expr Regrouped RegroupedLink (regrouped_step keys place_of) regrouped_link_step tree).over
 

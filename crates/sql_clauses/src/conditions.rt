@@ -47,8 +47,8 @@ pub(crate) fn condition(place: usize, part: Part) -> BoundPart
 }
 
 /// The operands of the outermost AND.
-pub(crate) fn conjuncts(alloc: Global, tree: Expr) -> Result<Exprs, BindFault>
-    ensures { Gives (Ok (rules.conjuncts tree)) result }
+pub(crate) fn conjuncts(alloc: Global, tree: Expr) -> Result<Exprs, OutOfMemory>
+    ensures { IfOk result (λ list. list ≡ rules.conjuncts tree) }
 {
     match tree {
         Expr::Every { list } => Ok(list),
@@ -65,7 +65,7 @@ pub(crate) fn on_condition(alloc: Global, place: usize, part: BoundPart) -> Resu
     ensures { GoesOn (rules.on_condition place) part result }
 {
     let part = condition(place, part?)?;
-    conjuncts(alloc, part.tree.into_inner())
+    Ok(conjuncts(alloc, part.tree.into_inner())?)
 }
 
 /// An operand of WHERE that is an expression.

@@ -2,18 +2,18 @@
 ghost use Rattle.std.specs.Prelude.{◌≡◌, ◌≤◌, ◌++◌, Some, IfOk, OnOk, length};
 ghost use Rattle.sql_scope.specs.Answer.{Gives, GoesOn, GoesOnBoth};
 ghost use Rattle.sql_clauses.specs.Aggregates.{AreAmong};
-ghost use Rattle.sql_clauses.specs.Grouping.{most_places};
+ghost use Rattle.sql_clauses.specs.Grouping.{group_place, most_places, over_group as grouped_tree};
 ghost use Rattle.sql_clauses.specs.Cores as rules;
 
 use crate::aggregates::{Gathered, are_unmixed, first_call, gather};
 use crate::conditions::{condition, conjuncts};
-use crate::grouping::list_over;
+use crate::grouping::{list_over, tree_over};
 use crate::items::{Outputs, covered};
 use crate::pairs::both;
 use crate::tables::MOST_COLUMNS;
 use bound_tree::{BoundCore, BoundRows, BoundSource, Conjunct, Grouping};
 use ooc_types::{OutOfMemory, RefusalKind, Schema};
-use sql_expr::Exprs;
+use sql_expr::{Expr, Exprs};
 use sql_scope::{BindFault, BoundPart, Call, Part, ScopeColumn};
 use sqlite_items::{Boxed, Items};
 use std::alloc::Global;
@@ -22,11 +22,11 @@ use std::mem;
 /// How many items a core may have.
 const MOST_ITEMS: usize = 64;
 
-/// The items of a core, with the conjuncts of its HAVING if it has one. Their aggregates stand with the outputs.
+/// The items of a core, with its HAVING if it has one. Their aggregates stand with the outputs.
 #[derive(Drop)]
 pub struct Selected {
     pub outputs: Outputs,
-    pub having: Option<Exprs>,
+    pub having: Option<Boxed<Expr>>,
 }
 
 /// A core whose clauses are bound; `place` is that of its SELECT.
@@ -67,52 +67,44 @@ fn add_calls(outputs: &mut Outputs, calls: Items<Call>) -> Result<(), OutOfMemor
     Ok(())
 }
 
-fn with_conjuncts(alloc: Global, outputs: Outputs, part: Part) -> Result<Selected, BindFault>
-    ensures { Gives (rules.with_conjuncts outputs part) result }
+fn with_test(outputs: Outputs, part: Part) -> Result<Selected, BindFault>
+    ensures { Gives (rules.with_test outputs part) result }
 {
     let Part { tree, calls, .. } = part;
-    let having = conjuncts(alloc, tree.into_inner())?;
     let mut outputs = outputs;
     add_calls(&mut outputs, calls)?;
     Ok(Selected {
         outputs,
-        having: Some(having),
+        having: Some(tree),
     })
 }
 
-fn having_behind(
-    alloc: Global,
-    place: usize,
-    outputs: Outputs,
-    part: Part,
-) -> Result<Selected, BindFault>
+fn having_behind(place: usize, outputs: Outputs, part: Part) -> Result<Selected, BindFault>
     ensures { Gives (rules.with_having place outputs part) result }
 {
     let part = covered(true, condition(place, part)?)?;
-    with_conjuncts(alloc, outputs, part)
+    with_test(outputs, part)
 }
 
 fn having_pair(
-    alloc: Global,
     place: usize,
     pair: Result<(Outputs, Part), BindFault>,
 ) -> Result<Selected, BindFault>
     ensures { GoesOn (λ p. rules.with_having place p.0 p.1) pair result }
 {
     let (outputs, part) = pair?;
-    having_behind(alloc, place, outputs, part)
+    having_behind(place, outputs, part)
 }
 
 /// HAVING behind the items; its first token stands at `place`.
 pub fn with_having(
-    alloc: Global,
     place: usize,
     outputs: Result<Outputs, BindFault>,
     part: BoundPart,
 ) -> Result<Selected, BindFault>
     ensures { GoesOnBoth (rules.with_having place) outputs part result }
 {
-    having_pair(alloc, place, both(outputs, part))
+    having_pair(place, both(outputs, part))
 }
 
 /// `count(DISTINCT x)` stands beside no other aggregate.
@@ -158,18 +150,35 @@ fn plain_rows(core: Core) -> BoundRows
     })
 }
 
+// HAVING over the row of a group is rewritten whole, before it is taken apart at its AND: the AND may be a key.
 fn having_over(alloc: Global, core: &Core, all: &Gathered) -> Result<Option<Exprs>, OutOfMemory>
     requires keys { length core.now.keys ≤ most_places }
     requires calls { AreAmong most_places all.now.calls }
     ensures { IfOk result (λ having. having ≡ rules.having_over core.now all.now core.now.selected.having) }
 {
     match &core.selected.having {
-        Some(having) => {
-            let trees = grouped_trees(alloc, core, all, having)?;
-            Ok(Some(trees))
+        Some(tree) => {
+            let tree = having_tree(alloc, core, all, tree.get())?;
+            Ok(Some(conjuncts(alloc, tree)?))
         }
         None => Ok(None),
     }
+}
+
+fn having_tree(
+    alloc: Global,
+    core: &Core,
+    all: &Gathered,
+    tree: &Expr,
+) -> Result<Expr, OutOfMemory>
+    requires keys { length core.now.keys ≤ most_places }
+    requires calls { AreAmong most_places all.now.calls }
+    ensures { IfOk result (λ over. over ≡ grouped_tree core.now.keys (group_place (length core.now.keys) (length core.now.columns) all.now.calls) tree.now) }
+{
+    let keys = core.keys.as_slice();
+    let width = core.columns.len();
+    let calls = all.calls.as_slice();
+    tree_over(alloc, tree, keys, width, calls)
 }
 
 fn grouped_trees(

@@ -225,7 +225,7 @@ fn one_link(
     item_behind(links, link(sign, right, kind))
 }
 
-/// Items, or the conjuncts of HAVING, over the row of a group.
+/// Expressions over the row of a group.
 #[cycle(group)]
 pub(crate) fn list_over(
     alloc: Global,
@@ -265,8 +265,9 @@ fn links_over(
     over
 }
 
+/// An expression over the row of a group.
 #[cycle(group)]
-fn tree_over(alloc: Global, tree: &Expr, keys: &[Expr], width: usize, calls: &[CallColumn]) -> Over
+pub(crate) fn tree_over(alloc: Global, tree: &Expr, keys: &[Expr], width: usize, calls: &[CallColumn]) -> Over
     requires keys { length keys.now ≤ rules.most_places }
     requires calls { AreAmong rules.most_places calls.now }
     ensures { IfOk result (λ over. over ≡ rules.over_group keys.now (rules.group_place (length keys.now) width calls.now) tree.now) }
