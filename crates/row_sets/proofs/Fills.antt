@@ -37,7 +37,7 @@ written More t w writing = record {
 -- and packed
 pub with_packed : {Page Pin : Type 0} (t : PoolTerms Page Pin) (w : Writer Page) → Written t w → IsPacked (fill_of w) → Writing t w
 with_packed t w writing packed = record {
-  packs = packed;
+  packs = record { packed = packed };
   columns = writing.columns;
   is_page = writing.is_page;
   pages = writing.pages;

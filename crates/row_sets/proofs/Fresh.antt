@@ -65,7 +65,7 @@ module _ {Page Pin : Type 0} (t : PoolTerms Page Pin) (kinds : List SqlType) (pa
 
   pub new_writing : 1 ≤ length kinds → length kinds ≤ 65 → text_columns (cell_kinds kinds) ≤ 64 → IsPage page_bytes → Writing t w
   new_writing some few texts page = record {
-    packs = subst IsPacked (sym new_fill) (empty_packed (rows_that_fit w.layout w.page_bytes) (w.page_bytes - 64));
+    packs = record { packed = subst IsPacked (sym new_fill) (empty_packed (rows_that_fit w.layout w.page_bytes) (w.page_bytes - 64)) };
     columns = record {
       layout_is = new.layout_is ∙ sym (ap cell_kinds new.kinds_are);
       some = let e = ap length new.kinds_are in omega (arith, e, some);

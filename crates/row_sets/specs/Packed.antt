@@ -107,6 +107,10 @@ pub record IsPacked (f : Fill) : Type 0 where
   pub paid : f.room * (heaps_in f.done + heaps_here f) ≤ f.long + f.asked + f.room * (ends_in f.fit f.done + some_of (heaps_here f))
   pub ready : f.rows < f.fit → f.room * (heaps_in f.done + f.sealed) + f.used ≤ f.long + f.asked + f.room * ends_in f.fit f.done
 
+-- what a writer's pages are, as they are filled
+pub record Packs {H : Type 0} (w : Writer H) : Type 0 where
+  pub packed : IsPacked (fill_of w)
+
 -- the open heap page sealed, where it has a text
 abbrev pub sealed_fill : Fill → Fill
 sealed_fill f = record f { sealed = f.sealed + some_of f.used; used = 0 }

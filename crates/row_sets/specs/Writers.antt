@@ -19,7 +19,7 @@ use Rattle.page_body.specs.PageLists.{ids_of, Differ, AllLive}
 use Rattle.page_body.specs.declared.open.OpenPage.{OpenPage}
 use Rattle.rebase_pins.specs.Rows.{page_rows}
 use Rattle.row_sets.specs.declared.limits.TheConstants.{MOST_ROWS, MOST_LONG}
-use Rattle.row_sets.specs.Packed.{IsPacked, fill_of}
+use Rattle.row_sets.specs.Packed.{Packs}
 use Rattle.row_sets.specs.Holds.{Holding, IsOwned, Unpinned}
 use Rattle.row_sets.specs.Cells.{AllFit, long_total}
 use Rattle.row_sets.specs.SetRows.{SetRow, row_as}
@@ -173,7 +173,7 @@ Written t w = WritingWith ⊤ t w
 
 -- and it packs its pages
 abbrev pub Writing : {Page Pin : Type 0} → PoolTerms Page Pin → Writer Page → Type 0
-Writing t w = WritingWith (IsPacked (fill_of w)) t w
+Writing t w = WritingWith (Packs w) t w
 
 -- what of it depends on the state: its pages are live and unpinned, and its open pages are this worker's
 pub record IsWriterHere {Page Pin : Type 0} (t : PoolTerms Page Pin) (a : PoolView Page Pin) (w : Writer Page) : Type 0 where

@@ -121,7 +121,8 @@ fn is_out_of_heaps<P: Pages>(writer: &Writer<P::Page>, long: u64) -> bool
     ensures needs { IsTrue result → (HeapHasRoom writer.now.page_bytes long writer.now.open_heap → ⊥) × (4 ≤ writer.now.sealed_heaps + count_open writer.now.open_heap) }
     ensures heaps { result ≡ false → (HeapHasRoom writer.now.page_bytes long writer.now.open_heap → ⊥) → writer.now.sealed_heaps + count_open writer.now.open_heap < 4 }
 {
-    if heap_has_room(writer.page_bytes, &writer.open_heap, long) {
+    let fits = heap_has_room(writer.page_bytes, &writer.open_heap, long);
+    if fits {
         return false;
     }
     match &writer.open_heap {

@@ -2,7 +2,7 @@ use Rattle.std.proofs.Common.{sym, subst, refl, ap, ◌∙◌}
 use Rattle.row_sets.specs.Holds.{nothing, Unpinned}
 use Rattle.row_sets.specs.Changes.{Changes}
 use Rattle.row_sets.specs.Sets.{Formed, set_ids, set_holding}
-use Rattle.row_sets.specs.Packed.{Fill, IsPacked, fill_of}
+use Rattle.row_sets.specs.Packed.{Fill, fill_of, Packs}
 use Rattle.row_sets.proofs.Fills.{written}
 use Rattle.row_sets.specs.Closing.{closed_set}
 use Rattle.row_sets.specs.Writers.{writer_holding}
@@ -11,7 +11,7 @@ use Rattle.row_sets.proofs.SealedHere.{closed_formed, closed_unpinned, closed_ho
 use Rattle.row_sets.proofs.closing.finish.Goals as goal
 
 pub close_page-requires-clause-writing : goal.close_page-requires-clause-writing
-close_page-requires-clause-writing g c = written (IsPacked (fill_of c.args.writer)) g.P.Pages.terms c.args.writer c.requires.writing
+close_page-requires-clause-writing g c = written (Packs c.args.writer) g.P.Pages.terms c.args.writer c.requires.writing
 
 pub returns-in-Ok-clause-asked : goal.returns-in-Ok-clause-asked
 returns-in-Ok-clause-asked g c = ap (λ set. set.asked_bytes) c.as_set.ensures ∙ ap (λ (f : Fill). f.asked) c.in-Ok.ensures.fill
@@ -19,7 +19,7 @@ returns-in-Ok-clause-asked g c = ap (λ set. set.asked_bytes) c.as_set.ensures �
 pub returns-in-Ok-clause-formed : goal.returns-in-Ok-clause-formed
 returns-in-Ok-clause-formed g c =
     let t = g.P.Pages.terms in
-    subst (Formed t) (sym c.as_set.ensures) (closed_formed t c.close_page.new.writer c.in-Ok.ensures.closed (fill_of c.args.writer) c.in-Ok.ensures.writing c.requires.writing.packs c.in-Ok.ensures.fill)
+    subst (Formed t) (sym c.as_set.ensures) (closed_formed t c.close_page.new.writer c.in-Ok.ensures.closed (fill_of c.args.writer) c.in-Ok.ensures.writing c.requires.writing.packs.packed c.in-Ok.ensures.fill)
 
 pub returns-in-Ok-clause-unpinned : goal.returns-in-Ok-clause-unpinned
 returns-in-Ok-clause-unpinned g c =

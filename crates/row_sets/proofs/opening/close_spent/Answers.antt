@@ -12,4 +12,4 @@ returns-clause-writing g c =
     let few = layout_few w.kinds w.layout c.requires.writing.columns in
     let fits = row_fits_page w.layout w.page_bytes c.requires.writing.is_page few in
     with_packed g.P.Pages.terms c.close_page.new.writer c.close_page.ensures.writing
-    (packed_after c.close_page.result (fill_of w) (fill_of c.close_page.new.writer) c.requires.writing.packs (λ takes. let s = c.requires.spent takes in (ap used_in s.0, s.1)) (omega (arith, fits)) c.close_page.ensures.fill c.close_page.ensures.left)
+    (packed_after c.close_page.result (fill_of w) (fill_of c.close_page.new.writer) c.requires.writing.packs.packed (λ takes. let s = c.requires.spent takes in (ap used_in s.0, s.1)) (omega (arith, fits)) c.close_page.ensures.fill c.close_page.ensures.left)

@@ -7,7 +7,7 @@ use Rattle.row_sets.specs.Writers.{Written, IsWriterHere, IsWhole}
 use Rattle.row_sets.proofs.Changed.{changes_open, changes_same}
 use Rattle.row_sets.proofs.Stays.{writer_stays, nothing_has_no_pins}
 use Rattle.string_heap.specs.Heaps.{used}
-use Rattle.row_sets.specs.Packed.{IsPacked, fill_of, used_in}
+use Rattle.row_sets.specs.Packed.{IsPacked, used_in, Packs}
 use Rattle.row_sets.proofs.Fills.{written, with_packed, heap_fill}
 use Rattle.row_sets.proofs.Opened.{heap_writing, heap_here}
 use Rattle.row_sets.proofs.opening.open_heap.Goals as goal
@@ -40,9 +40,9 @@ returns-clause-writing g c =
     } in
     let none : used p.frame.bytes.items ≡ 0 = k.empty in
     let e : w ≡ record w { open_heap = None } = λ i. record w { open_heap = c.requires.none i } in
-    let writing : Written t (record w { open_heap = None }) = subst (Written t) e (written (IsPacked (fill_of w)) t w c.requires.writing) in
+    let writing : Written t (record w { open_heap = None }) = subst (Written t) e (written (Packs w) t w c.requires.writing) in
     with_packed t (record w { open_heap = Some p }) (heap_writing t w p writing whole none c.requires.rows c.requires.few)
-    (subst IsPacked (heap_fill w (Some p) (ap used_in c.requires.none ∙ sym none)) c.requires.writing.packs)
+    (subst IsPacked (heap_fill w (Some p) (ap used_in c.requires.none ∙ sym none)) c.requires.writing.packs.packed)
 
 pub returns-clause-here : goal.returns-clause-here
 returns-clause-here g c =
@@ -62,5 +62,5 @@ returns-clause-here g c =
     let ch = subst (λ (n : ℕ). Changes t nothing (an_open n) a b) (sym k.page.number) (changes_open t c.in_ok-page.page.frame.number a b s.counted s.steady s.lives s.pins) in
     let none : used p.frame.bytes.items ≡ 0 = k.empty in
     let e : w ≡ record w { open_heap = None } = λ i. record w { open_heap = c.requires.none i } in
-    let writing : Written t (record w { open_heap = None }) = subst (Written t) e (written (IsPacked (fill_of w)) t w c.requires.writing) in
+    let writing : Written t (record w { open_heap = None }) = subst (Written t) e (written (Packs w) t w c.requires.writing) in
     heap_here t w p writing whole none c.requires.rows c.requires.few a b ch (subst (IsWriterHere t a) e c.requires.here)
