@@ -1,7 +1,7 @@
 -- How few pages a set has.
-use Rattle.std.proofs.Common.{◌≡◌, ℕ, zero, suc, ◌+◌, ◌-◌, ◌*◌, ◌/◌, ◌<◌, ◌≤◌, Bool, true, false, List, [], ◌∷◌, ◌++◌, length, Option, Some, None, refl, sym, ap, subst, inl, inr, ◌∙◌, arith, length-append}
+use Rattle.std.proofs.Common.{◌≡◌, ℕ, ◌+◌, ◌-◌, ◌*◌, ◌/◌, ◌<◌, ◌≤◌, Bool, true, false, List, [], ◌∷◌, ◌++◌, length, Option, Some, None, refl, sym, ap, subst, inl, inr, ◌∙◌, arith, length-append}
 use Rattle.std.specs.Prelude.{nat_lt, nat_le, ◌==◌, if◌then◌else◌}
-use Rattle.std.proofs.lemmas.Bool.{lt-ltb, le-ltb, le-leb, lt-leb, eq-eqb, ne_eqb, cases_lt, cases_eq}
+use Rattle.std.proofs.lemmas.Bool.{le-leb, lt-leb, eq-eqb, ne_eqb, cases_lt, cases_eq}
 use Rattle.std.proofs.lemmas.Nat.{le-div}
 use Rattle.row_image.specs.declared.layout.CellKind.{CellKind}
 use Rattle.row_image.specs.Bytes.{IsPage}
@@ -9,10 +9,9 @@ use Rattle.row_image.specs.Layout.{width_of, rows_that_fit}
 use Rattle.row_image.proofs.FitLemmas.{row_fits_page}
 use Rattle.page_body.specs.View.{PoolTerms}
 use Rattle.rebase_pins.specs.Rows.{rows_of_page}
-use Rattle.row_sets.specs.Packed.{PageFill, Fill, packed_pages, packed_heaps, count_page, heaps_of, fills_in, heaps_in, ends_in, ends_of, some_of, heaps_here, AllSpent, IsPacked, sealed_fill, closed_fill, closed_done, fill_of}
+use Rattle.row_sets.specs.Packed.{PageFill, Fill, packed_pages, packed_heaps, count_page, fills_in, heaps_in, ends_in, ends_of, some_of, heaps_here, AllSpent, IsPacked, closed_done}
 use Rattle.row_sets.specs.Sets.{with_heap, pages_in, lists_in, joined, AllSetPages}
 use Rattle.row_sets.specs.declared.row_set.SetPage.{SetPage}
-use Rattle.row_sets.specs.declared.writer.Writer.{Writer}
 use Rattle.row_sets.proofs.Packing.{some_is, some_none, heaps_push}
 
 -- the rows of row pages, those that are full, and the others

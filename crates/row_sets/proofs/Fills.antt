@@ -1,13 +1,13 @@
 -- A writer by how full its pages are, through the steps that change them.
-use Rattle.std.proofs.Common.{◌≡◌, ℕ, ◌+◌, ◌-◌, ◌<◌, ◌≤◌, List, [], ◌∷◌, ◌++◌, length, Option, Some, None, refl, sym, ap, subst, ◌∙◌, arith}
-use Rattle.std.specs.Prelude.{nat_lt, if◌then◌else◌}
+use Rattle.std.proofs.Common.{◌≡◌, ℕ, ◌+◌, ◌-◌, ◌<◌, ◌≤◌, List, [], ◌∷◌, ◌++◌, Option, Some, None, refl, sym, ap, ◌∙◌, arith}
+use Rattle.std.specs.Prelude.{if◌then◌else◌}
 use Rattle.std.proofs.lemmas.Bool.{lt-ltb}
 use Rattle.row_image.specs.Image.{row_count}
 use Rattle.row_image.specs.Layout.{rows_that_fit}
 use Rattle.page_body.specs.View.{PoolTerms}
 use Rattle.page_body.specs.declared.open.OpenPage.{OpenPage}
 use Rattle.row_sets.specs.Closing.{IsWithRows}
-use Rattle.row_sets.specs.Packed.{Fill, PageFill, IsPacked, fill_of, fills_in, rows_in, used_in, count_page, heaps_of, closed_fill, closed_done, sealed_fill}
+use Rattle.row_sets.specs.Packed.{PageFill, IsPacked, fill_of, fills_in, rows_in, used_in, count_page, heaps_of, closed_fill, closed_done}
 use Rattle.row_sets.specs.Writers.{WritingWith, Writing, Written, IsThere}
 use Rattle.row_sets.specs.declared.row_set.SetPage.{SetPage}
 use Rattle.row_sets.specs.declared.writer.Writer.{Writer}

@@ -1,5 +1,5 @@
 -- New writers, and what is given.
-use Rattle.std.proofs.Common.{◌≡◌, ℕ, ◌+◌, ◌-◌, ◌*◌, ◌≤◌, List, [], ◌++◌, length, Option, Some, None, Result, Ok, Err, refl, ap, sym, ◌∙◌, subst, arith}
+use Rattle.std.proofs.Common.{◌≡◌, ℕ, ◌+◌, ◌-◌, ◌≤◌, List, [], ◌++◌, length, Option, Some, None, Result, Ok, Err, refl, ap, sym, ◌∙◌, subst, arith}
 use Rattle.std.specs.Prelude.{Bool, IfOk, IfErr, IfSome}
 use Rattle.ooc_types.specs.declared.schema.SqlType.{SqlType}
 use Rattle.row_image.specs.Bytes.{IsPage}
@@ -19,7 +19,7 @@ use Rattle.row_sets.specs.Sets.{IsHere, Formed, set_ids, with_heap, pages_in, li
 use Rattle.row_sets.specs.Cells.{text_columns, long_total}
 use Rattle.row_sets.specs.Packed.{IsPacked, fill_of, fills_in, rows_in, used_in}
 use Rattle.row_image.specs.Layout.{rows_that_fit}
-use Rattle.row_sets.specs.Writers.{Writing, Written, IsWriterHere, IsOpenRows, IsWhole, IsBase, IsThere, writer_holding, writer_ids, written_pages, written_cells, open_list, open_in, count_open, used_heaps, heaps_now, NoHeaps}
+use Rattle.row_sets.specs.Writers.{Writing, IsWriterHere, IsOpenRows, IsWhole, IsBase, IsThere, writer_holding, writer_ids, written_pages, written_cells, open_list, open_in, count_open, used_heaps, heaps_now, NoHeaps}
 use Rattle.row_sets.specs.Given.{IsNewWriter, set_given, open_holding}
 use Rattle.row_sets.specs.declared.row_set.RowSet.{RowSet}
 use Rattle.row_sets.specs.declared.writer.Writer.{Writer}

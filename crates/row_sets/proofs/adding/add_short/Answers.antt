@@ -1,4 +1,4 @@
-use Rattle.std.proofs.Common.{map, refl, sym, ap, arith, ◌≤◌}
+use Rattle.std.proofs.Common.{map, refl, sym, ap, arith}
 use Rattle.std.proofs.Math.Nat.{max-eq_left}
 use Rattle.row_image.specs.Rules.{text_limit}
 use Rattle.rebase_pins.specs.Seen.{value_read}

@@ -1,7 +1,7 @@
 use Rattle.std.proofs.Common.{ap, arith}
 use Rattle.row_image.proofs.FitLemmas.{row_fits_page}
-use Rattle.row_sets.specs.Packed.{IsPacked, fill_of, used_in}
-use Rattle.row_sets.proofs.Fills.{written, with_packed}
+use Rattle.row_sets.specs.Packed.{fill_of, used_in}
+use Rattle.row_sets.proofs.Fills.{with_packed}
 use Rattle.row_sets.proofs.Packing.{packed_after}
 use Rattle.row_sets.proofs.RowPuts.{layout_few}
 use Rattle.row_sets.proofs.opening.close_spent.Goals as goal
