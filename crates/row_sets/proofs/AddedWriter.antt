@@ -22,7 +22,7 @@ use Rattle.row_sets.specs.LongTexts.{TextsAt}
 use Rattle.rebase_pins.specs.Fits.{RowFits}
 use Rattle.row_sets.specs.Cells.{long_in, long_total}
 use Rattle.row_sets.specs.Sets.{lists_in, joined}
-use Rattle.row_sets.specs.Writers.{Writing, HasRoom, AreParts, Reaches, Reached, number_of, IsOpenRows, IsWhole, IsBase, IsThere, heaps_now, content_else, if_at, bytes_of, open_list, written_cells, used_heaps, count_open, count_used, open_in, writer_holding, writer_ids}
+use Rattle.row_sets.specs.Writers.{Written, HasRoom, AreParts, Reaches, Reached, number_of, IsOpenRows, IsWhole, IsBase, IsThere, heaps_now, content_else, if_at, bytes_of, open_list, written_cells, used_heaps, count_open, count_used, open_in, writer_holding, writer_ids}
 use Rattle.row_sets.specs.declared.writer.Writer.{Writer}
 use Rattle.row_sets.proofs.Sealing.{if_at_high, if_at_here, there_below, content_there}
 use Rattle.row_sets.proofs.RowPuts.{has_texts_of}
@@ -59,12 +59,12 @@ module _ {Page Pin : Type 0} (t : PoolTerms Page Pin) where
   heaps_low w h (suc (suc (suc zero))) t0 t1 t2 t3 less = content_there t w.heap3 3 w.sealed_heaps (if_at 3 w.sealed_heaps (bytes_of h)) (if_at 3 w.sealed_heaps (bytes_of w.open_heap)) t3 less
   heaps_low w h (suc (suc (suc (suc k)))) t0 t1 t2 t3 less = refl
 
-  module _ (w : Writer Page) (p p' : OpenPage) (h : Option OpenPage) (vs : List CellValue) (hash n : ℕ) (writing : Writing t w) (is : w.open_rows ≡ Some p) (room : HasRoom w (long_in vs)) (n_is : n ≡ w.long_bytes + long_in vs)
+  module _ (w : Writer Page) (p p' : OpenPage) (h : Option OpenPage) (vs : List CellValue) (hash n k : ℕ) (writing : Written t w) (is : w.open_rows ≡ Some p) (room : HasRoom w (long_in vs)) (n_is : n ≡ w.long_bytes + long_in vs)
       (opened : IsOpenRows w.layout w.page_bytes (w.sealed_heaps + count_used h) w.first_heap (heaps_now t (record w { open_heap = h })) p')
       (rows : page_rows w.layout (flat (Rows w.layout) p'.frame.bytes.items) (heaps_now t (record w { open_heap = h })) ≡ page_rows w.layout (flat (Rows w.layout) p.frame.bytes.items) (heaps_now t w) ++ record { hash = hash; values = vs } ∷ [])
       (heap : IfSome h (IsWhole Heap w.page_bytes)) (base : IsBase w.page_bytes w.sealed_heaps (Some p') h) (same_open : count_open h ≡ count_open w.open_heap) where
     abbrev next : Writer Page
-    next = record w { open_rows = Some p'; open_heap = h; rows = w.rows + 1; long_bytes = n }
+    next = record w { open_rows = Some p'; open_heap = h; rows = w.rows + 1; long_bytes = n; asked_bytes = k }
 
     abbrev row : ValueRow
     row = record { hash = hash; values = vs }
@@ -76,8 +76,9 @@ module _ {Page Pin : Type 0} (t : PoolTerms Page Pin) where
         ∙ sym (append_assoc done (page_rows w.layout (flat (Rows w.layout) p.frame.bytes.items) (heaps_now t w)) (row ∷ []))
         ∙ ap (λ (o : Option OpenPage). (done ++ open_list w.layout (heaps_now t w) o) ++ row ∷ []) (sym is)
 
-    pub writing_added : Writing t next
+    pub writing_added : Written t next
     writing_added = record {
+      packs = tt;
       columns = writing.columns;
       is_page = writing.is_page;
       pages = writing.pages;
@@ -122,12 +123,12 @@ pub unused : (p : OpenPage) → used p.frame.bytes.items ≡ 0 → count_used (S
 unused p none = ap {B = ℕ} (λ b. if b then 1 else 0) (le-ltb 0 (used p.frame.bytes.items) (omega (arith, none)))
 
 -- the open pages stay in their frames
-pub open_pages : {Page Pin : Type 0} (t : PoolTerms Page Pin) (w : Writer Page) (p h p' h' : OpenPage) (rows long : ℕ) → w.open_rows ≡ Some p → w.open_heap ≡ Some h → p'.frame.number ≡ p.frame.number → h'.frame.number ≡ h.frame.number → writer_holding t (record w { open_rows = Some p'; open_heap = Some h'; rows = rows; long_bytes = long }) ≡ writer_holding t w
-open_pages t w p h p' h' rows long is is_heap same same_heap =
+pub open_pages : {Page Pin : Type 0} (t : PoolTerms Page Pin) (w : Writer Page) (p h p' h' : OpenPage) (rows long asked : ℕ) → w.open_rows ≡ Some p → w.open_heap ≡ Some h → p'.frame.number ≡ p.frame.number → h'.frame.number ≡ h.frame.number → writer_holding t (record w { open_rows = Some p'; open_heap = Some h'; rows = rows; long_bytes = long; asked_bytes = asked }) ≡ writer_holding t w
+open_pages t w p h p' h' rows long asked is is_heap same same_heap =
     (λ i. record { pages = writer_ids t w; pins = λ y. 0; opens = λ y. one_of (same i) y + one_of (same_heap i) y; held = 2 })
     ∙ (λ i. record { pages = writer_ids t w; pins = λ y. 0; opens = λ y. open_in (sym is i) y + open_in (sym is_heap i) y; held = count_open (sym is i) + count_open (sym is_heap i) })
 
-module _ {Page Pin : Type 0} (t : PoolTerms Page Pin) (w : Writer Page) (writing : Writing t w) where
+module _ {Page Pin : Type 0} (t : PoolTerms Page Pin) (w : Writer Page) (writing : Written t w) where
   pub heaps_none : used_heaps w ≡ 0 → get_or (heaps_now t w) 0 [] ≡ []
   heaps_none zero_used = slot_here t 0 w.sealed_heaps w.heap0 (bytes_of w.open_heap) writing.filled.0 (omega (arith, zero_used)) ∙ bytes_none w.open_heap (omega (arith, zero_used))
 
@@ -170,10 +171,10 @@ module _ {Page Pin : Type 0} (t : PoolTerms Page Pin) (w : Writer Page) (writing
     short_base = base_kept w.open_heap refl (subst (λ (o : Option OpenPage). IsBase w.page_bytes w.sealed_heaps o w.open_heap) is writing.base)
 
     pub short_cells : written_cells t (record w { open_rows = Some p'; rows = w.rows + 1 }) ≡ written_cells t w ++ record { hash = hash; values = vs } ∷ []
-    short_cells = cells_added t w p p' w.open_heap vs hash w.long_bytes writing is room (omega (arith, short)) short_open short_rows writing.open_heap short_base refl
+    short_cells = cells_added t w p p' w.open_heap vs hash w.long_bytes w.asked_bytes writing is room (omega (arith, short)) short_open short_rows writing.open_heap short_base refl
 
-    pub short_writing : Writing t (record w { open_rows = Some p'; rows = w.rows + 1 })
-    short_writing = writing_added t w p p' w.open_heap vs hash w.long_bytes writing is room (omega (arith, short)) short_open short_rows writing.open_heap short_base refl
+    pub short_writing : Written t (record w { open_rows = Some p'; rows = w.rows + 1 })
+    short_writing = writing_added t w p p' w.open_heap vs hash w.long_bytes w.asked_bytes writing is room (omega (arith, short)) short_open short_rows writing.open_heap short_base refl
 
   -- a row with long texts
   module _ (p h : OpenPage) (vs : List CellValue) (is : w.open_rows ≡ Some p) (is_heap : w.open_heap ≡ Some h) where
@@ -200,7 +201,7 @@ module _ {Page Pin : Type 0} (t : PoolTerms Page Pin) (w : Writer Page) (writing
         (elim (cases_eq (used h.frame.bytes.items) 0) [ inl none ↦ let u = unused h none in inl (omega (arith, used_is, u)) | inr some ↦ let u = is_used h (omega (arith, some)) in inr (omega (arith, used_is, u)) ])
         (λ more. base_at (elim (cases_eq (used h.frame.bytes.items) 0) [ inl none ↦ let u = unused h none in absurd (omega (arith, used_is, u, more)) | inr some ↦ omega (arith, some) ]) ∙ base_same)
 
-    module _ (p' h' : OpenPage) (hash long : ℕ) (room : HasRoom w (long_in vs)) (fits : RowFits w.layout (text_limit w.page_bytes) vs) (long_is : long ≡ long_in vs) (some : 0 < long) (keeps : KeepsOpen p p') (keeps_heap : KeepsOpen h h')
+    module _ (p' h' : OpenPage) (hash long asked : ℕ) (room : HasRoom w (long_in vs)) (fits : RowFits w.layout (text_limit w.page_bytes) vs) (long_is : long ≡ long_in vs) (some : 0 < long) (keeps : KeepsOpen p p') (keeps_heap : KeepsOpen h h')
         (puts : PutsRow w.layout p.frame.bytes.items p'.frame.bytes.items vs hash (Some (number_of w.first_heap w.sealed_heaps, base_in h)) (text_place h))
         (accepted : IsAccepted Heap h'.frame.bytes.items) (kept : KeepsTexts h.frame.bytes.items h'.frame.bytes.items) (counted : used h'.frame.bytes.items ≡ used h.frame.bytes.items + long_in vs) (texts : TextsAt h'.frame.bytes.items (64 + used h.frame.bytes.items) vs) where
       now_used : 0 < used h'.frame.bytes.items
@@ -266,8 +267,8 @@ module _ {Page Pin : Type 0} (t : PoolTerms Page Pin) (w : Writer Page) (writing
       whole_now : IsWhole Heap w.page_bytes h'
       whole_now = record { kind_is = keeps_heap.kind ∙ whole.kind_is; long = keeps_heap.long ∙ whole.long; number = subst (λ (z : ℕ). z < most_frames) (sym keeps_heap.number) whole.number; accepted = accepted }
 
-      pub long_cells : written_cells t (record w { open_rows = Some p'; open_heap = Some h'; rows = w.rows + 1; long_bytes = w.long_bytes + long }) ≡ written_cells t w ++ record { hash = hash; values = vs } ∷ []
-      long_cells = cells_added t w p p' (Some h') vs hash (w.long_bytes + long) writing is room (omega (arith, long_is)) open_now rows_now whole_now base_now (sym count_is)
+      pub long_cells : written_cells t (record w { open_rows = Some p'; open_heap = Some h'; rows = w.rows + 1; long_bytes = w.long_bytes + long; asked_bytes = asked }) ≡ written_cells t w ++ record { hash = hash; values = vs } ∷ []
+      long_cells = cells_added t w p p' (Some h') vs hash (w.long_bytes + long) asked writing is room (omega (arith, long_is)) open_now rows_now whole_now base_now (sym count_is)
 
-      pub long_writing : Writing t (record w { open_rows = Some p'; open_heap = Some h'; rows = w.rows + 1; long_bytes = w.long_bytes + long })
-      long_writing = writing_added t w p p' (Some h') vs hash (w.long_bytes + long) writing is room (omega (arith, long_is)) open_now rows_now whole_now base_now (sym count_is)
+      pub long_writing : Written t (record w { open_rows = Some p'; open_heap = Some h'; rows = w.rows + 1; long_bytes = w.long_bytes + long; asked_bytes = asked })
+      long_writing = writing_added t w p p' (Some h') vs hash (w.long_bytes + long) asked writing is room (omega (arith, long_is)) open_now rows_now whole_now base_now (sym count_is)

@@ -21,7 +21,7 @@ use Rattle.row_sets.specs.Holds.{Holding, nothing, both, an_open}
 use Rattle.row_sets.specs.Changes.{Changes}
 use Rattle.row_sets.specs.Cells.{long_total}
 use Rattle.row_sets.specs.Sets.{lists_in, joined}
-use Rattle.row_sets.specs.Writers.{Writing, IsWriterHere, IsOpenRows, heaps_now, content_else, if_at, bytes_of, open_in, count_open, count_used, open_list, written_cells, written_pages, writer_holding, writer_ids}
+use Rattle.row_sets.specs.Writers.{Written, IsWriterHere, IsOpenRows, heaps_now, content_else, if_at, bytes_of, open_in, count_open, count_used, open_list, written_cells, written_pages, writer_holding, writer_ids}
 use Rattle.row_sets.specs.declared.writer.Writer.{Writer}
 use Rattle.row_sets.proofs.Changed.{changes_as, changes_beside, live_on, unpinned_on}
 use Rattle.row_sets.proofs.Sealing.{base_none, rows_there}
@@ -47,7 +47,7 @@ no_parts kinds image h none =
 
 module _ {Page Pin : Type 0} (t : PoolTerms Page Pin) where
   -- a heap page without texts
-  module _ (w : Writer Page) (p : OpenPage) (writing : Writing t (record w { open_heap = Some p })) (none : used p.frame.bytes.items ≡ 0) where
+  module _ (w : Writer Page) (p : OpenPage) (writing : Written t (record w { open_heap = Some p })) (none : used p.frame.bytes.items ≡ 0) where
     abbrev before : Writer Page
     before = record w { open_heap = Some p }
 
@@ -63,11 +63,12 @@ module _ {Page Pin : Type 0} (t : PoolTerms Page Pin) where
     pub dropped_cells : written_cells t after ≡ written_cells t before
     dropped_cells = ap (λ (heaps : List (List ℕ)). joined (lists_in t w.layout w.pages.items) ++ open_list w.layout heaps w.open_rows) heaps_same
 
-    pub dropped_writing : Writing t after
+    pub dropped_writing : Written t after
     dropped_writing =
         let u = unused p none in
         let count : w.sealed_heaps + count_used (Some p) ≡ w.sealed_heaps + 0 = omega (arith, u) in
         record {
+          packs = tt;
           columns = writing.columns;
           is_page = writing.is_page;
           pages = writing.pages;
@@ -104,7 +105,7 @@ module _ {Page Pin : Type 0} (t : PoolTerms Page Pin) where
         (changes_beside t (an_open p.frame.number) nothing rest a b c)
 
   -- a row page without rows, where no heap page is open
-  module _ (w : Writer Page) (p : OpenPage) (writing : Writing t (record w { open_rows = Some p; open_heap = None })) (none : row_count p.frame.bytes.items ≡ 0) where
+  module _ (w : Writer Page) (p : OpenPage) (writing : Written t (record w { open_rows = Some p; open_heap = None })) (none : row_count p.frame.bytes.items ≡ 0) where
     abbrev with_rows : Writer Page
     with_rows = record w { open_rows = Some p; open_heap = None }
 
@@ -130,8 +131,9 @@ module _ {Page Pin : Type 0} (t : PoolTerms Page Pin) where
         zero_of zero never = refl
         zero_of (suc n) never = absurd (never (omega arith))
 
-    pub emptied_writing : Writing t without
+    pub emptied_writing : Written t without
     emptied_writing = record {
+      packs = tt;
       columns = writing.columns;
       is_page = writing.is_page;
       pages = writing.pages;

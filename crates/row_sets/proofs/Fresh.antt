@@ -1,5 +1,5 @@
 -- New writers, and what is given.
-use Rattle.std.proofs.Common.{◌≡◌, ℕ, ◌+◌, ◌≤◌, List, [], ◌++◌, length, Option, Some, None, Result, Ok, Err, refl, ap, sym, ◌∙◌, subst, arith}
+use Rattle.std.proofs.Common.{◌≡◌, ℕ, ◌+◌, ◌-◌, ◌≤◌, List, [], ◌++◌, length, Option, Some, None, Result, Ok, Err, refl, ap, sym, ◌∙◌, subst, arith}
 use Rattle.std.specs.Prelude.{Bool, IfOk, IfErr, IfSome}
 use Rattle.ooc_types.specs.declared.schema.SqlType.{SqlType}
 use Rattle.row_image.specs.Bytes.{IsPage}
@@ -17,6 +17,8 @@ use Rattle.row_sets.specs.Changes.{Changes}
 use Rattle.row_sets.specs.SetRows.{cell_kinds}
 use Rattle.row_sets.specs.Sets.{IsHere, Formed, set_ids, with_heap, pages_in, lists_in, joined, AllSetPages}
 use Rattle.row_sets.specs.Cells.{text_columns, long_total}
+use Rattle.row_sets.specs.Packed.{IsPacked, fill_of, fills_in, rows_in, used_in}
+use Rattle.row_image.specs.Layout.{rows_that_fit}
 use Rattle.row_sets.specs.Writers.{Writing, IsWriterHere, IsOpenRows, IsWhole, IsBase, IsThere, writer_holding, writer_ids, written_pages, written_cells, open_list, open_in, count_open, used_heaps, heaps_now, NoHeaps}
 use Rattle.row_sets.specs.Given.{IsNewWriter, set_given, open_holding}
 use Rattle.row_sets.specs.declared.row_set.RowSet.{RowSet}
@@ -24,6 +26,9 @@ use Rattle.row_sets.specs.declared.writer.Writer.{Writer}
 use Rattle.row_image.specs.declared.image.ImageKind.TheVariants.{Rows, Heap}
 use Rattle.row_sets.proofs.Changed.{changes_as, changes_then, changes_beside, live_on, unpinned_on}
 use Rattle.row_sets.proofs.Stays.{set_stays, HasNoPins}
+
+empty_packed : (fit room : ℕ) → IsPacked (record { fit = fit; room = room; done = []; rows = 0; sealed = 0; used = 0; long = 0; asked = 0 })
+empty_packed fit room = record { spent = tt; added = omega arith; few = omega arith; texts = omega arith; paid = omega arith; ready = λ takes. omega arith }
 
 module _ {Page Pin : Type 0} (t : PoolTerms Page Pin) (kinds : List SqlType) (page_bytes : ℕ) (w : Writer Page) (new : IsNewWriter kinds page_bytes w) where
   pub no_pages : written_pages w ≡ []
@@ -51,8 +56,16 @@ module _ {Page Pin : Type 0} (t : PoolTerms Page Pin) (kinds : List SqlType) (pa
   pub new_rows : written_cells t w ≡ []
   new_rows = ap (λ ps. joined (lists_in t w.layout ps) ++ open_list w.layout (heaps_now t w) w.open_rows) new.pages ∙ ap (λ o. open_list w.layout (heaps_now t w) o) new.open_rows
 
+  new_fill : fill_of w ≡ record { fit = rows_that_fit w.layout w.page_bytes; room = w.page_bytes - 64; done = []; rows = 0; sealed = 0; used = 0; long = 0; asked = 0 }
+  new_fill =
+      let done = ap fills_in new.pages in
+      let rows = ap rows_in new.open_rows in
+      let used = ap used_in new.open_heap in
+      (λ i. record { fit = rows_that_fit w.layout w.page_bytes; room = w.page_bytes - 64; done = done i; rows = rows i; sealed = new.sealed_heaps i; used = used i; long = new.long i; asked = new.asked i })
+
   pub new_writing : 1 ≤ length kinds → length kinds ≤ 65 → text_columns (cell_kinds kinds) ≤ 64 → IsPage page_bytes → Writing t w
   new_writing some few texts page = record {
+    packs = record { packed = subst IsPacked (sym new_fill) (empty_packed (rows_that_fit w.layout w.page_bytes) (w.page_bytes - 64)) };
     columns = record {
       layout_is = new.layout_is ∙ sym (ap cell_kinds new.kinds_are);
       some = let e = ap length new.kinds_are in omega (arith, e, some);

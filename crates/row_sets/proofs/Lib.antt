@@ -15,3 +15,6 @@ pub mod Dropped
 pub mod Opened
 pub mod PageAt
 mod Bounds
+pub mod Packing
+pub mod Few
+pub mod Fills

@@ -23,7 +23,7 @@ use Rattle.row_sets.specs.Holds.{nothing, an_open}
 use Rattle.row_sets.specs.Changes.{Changes}
 use Rattle.row_sets.specs.Cells.{AllFit, long_total}
 use Rattle.row_sets.specs.Sets.{lists_in, joined}
-use Rattle.row_sets.specs.Writers.{Writing, IsWriterHere, IsBase, IsWhole, IsOpenRows, NoHeaps, heaps_now, content_else, if_at, count_used, used_heaps, open_list, written_cells, written_pages, writer_ids}
+use Rattle.row_sets.specs.Writers.{Written, IsWriterHere, IsBase, IsWhole, IsOpenRows, NoHeaps, heaps_now, content_else, if_at, count_used, used_heaps, open_list, written_cells, written_pages, writer_ids}
 use Rattle.row_sets.specs.declared.writer.Writer.{Writer}
 use Rattle.row_sets.proofs.Changed.{live_on, unpinned_on}
 use Rattle.row_sets.proofs.AddedWriter.{unused}
@@ -36,7 +36,7 @@ text_rows_none kinds content later none =
 
 module _ {Page Pin : Type 0} (t : PoolTerms Page Pin) where
   -- an empty row page
-  module _ (w : Writer Page) (p : OpenPage) (writing : Writing t (record w { open_rows = None })) (whole : IsWhole (Rows w.layout) w.page_bytes p) (none : row_count p.frame.bytes.items ≡ 0) where
+  module _ (w : Writer Page) (p : OpenPage) (writing : Written t (record w { open_rows = None })) (whole : IsWhole (Rows w.layout) w.page_bytes p) (none : row_count p.frame.bytes.items ≡ 0) where
     abbrev without : Writer Page
     without = record w { open_rows = None }
 
@@ -74,8 +74,9 @@ module _ {Page Pin : Type 0} (t : PoolTerms Page Pin) where
       fit = subst (AllFit w.layout (text_limit w.page_bytes)) (sym rows_none) tt;
     }
 
-    pub rows_writing : Writing t with_rows
+    pub rows_writing : Written t with_rows
     rows_writing = record {
+      packs = tt;
       columns = writing.columns;
       is_page = writing.is_page;
       pages = writing.pages;
@@ -103,7 +104,7 @@ module _ {Page Pin : Type 0} (t : PoolTerms Page Pin) where
     }
 
   -- an empty heap page
-  module _ (w : Writer Page) (h : OpenPage) (writing : Writing t (record w { open_heap = None })) (whole : IsWhole Heap w.page_bytes h) (none : used h.frame.bytes.items ≡ 0) (rows : w.open_rows ≢ None) (few : w.sealed_heaps < 4) where
+  module _ (w : Writer Page) (h : OpenPage) (writing : Written t (record w { open_heap = None })) (whole : IsWhole Heap w.page_bytes h) (none : used h.frame.bytes.items ≡ 0) (rows : w.open_rows ≢ None) (few : w.sealed_heaps < 4) where
     abbrev before : Writer Page
     before = record w { open_heap = None }
 
@@ -127,11 +128,12 @@ module _ {Page Pin : Type 0} (t : PoolTerms Page Pin) where
     waits_there None there = absurd (there refl)
     waits_there (Some p) there = tt
 
-    pub heap_writing : Writing t after
+    pub heap_writing : Written t after
     heap_writing =
         let u = unused h none in
         let count : w.sealed_heaps + 0 ≡ w.sealed_heaps + count_used (Some h) = omega (arith, u) in
         record {
+          packs = tt;
           columns = writing.columns;
           is_page = writing.is_page;
           pages = writing.pages;

@@ -6,14 +6,17 @@ use Rattle.number_bags.specs.Bags.{one_of}
 use Rattle.number_bags.proofs.Bags.{one_other, one_most}
 use Rattle.page_body.specs.declared.open.OpenPage.{OpenPage}
 use Rattle.page_body.specs.PageLists.{ids_of, Differ, AllLive}
+use Rattle.row_sets.specs.Packed.{Fill, IsPacked, fill_of, closed_fill, sealed_fill}
 use Rattle.row_sets.specs.Holds.{Holding, both, an_open, a_page, SameHolding, Unpinned}
 use Rattle.row_sets.specs.Changes.{Changes}
 use Rattle.row_sets.specs.Cells.{long_total}
 use Rattle.row_sets.specs.Sets.{with_heap, pages_in, lists_in, joined, set_cells, set_ids, set_pages, set_holding, Formed}
-use Rattle.row_sets.specs.Writers.{Writing, IsWriterHere, heaps_now, open_in, count_open, open_list, written_cells, written_pages, writer_ids, writer_holding}
+use Rattle.row_sets.specs.Writers.{Written, IsWriterHere, heaps_now, open_in, count_open, open_list, written_cells, written_pages, writer_ids, writer_holding}
 use Rattle.row_sets.specs.Closing.{put_at, with_sealed, IsClosed, closed_set}
 use Rattle.row_sets.specs.declared.writer.Writer.{Writer}
 use Rattle.row_sets.proofs.Changed.{same_or, changes_as, changes_beside, differ_on, live_on}
+use Rattle.row_sets.proofs.Few.{few_pages}
+use Rattle.row_sets.proofs.RowPuts.{layout_few}
 use Rattle.row_sets.proofs.Sealing.{sealed_ids}
 
 module _ {Page Pin : Type 0} (t : PoolTerms Page Pin) where
@@ -63,7 +66,7 @@ module _ {Page Pin : Type 0} (t : PoolTerms Page Pin) where
     | inr other ↦ let none = one_other (t.id page) y (λ e. other (sym e)) in let p = c.pins y in let z = unpinned ends y (omega (arith, some, none)) in omega (arith, p, z)
   ]
 
-  module _ (w : Writer Page) (p : OpenPage) (page : Page) (a b : PoolView Page Pin) (c : Changes t (an_open p.frame.number) (a_page (t.id page)) a b) (live : b.live page) (fresh : IsTrue t.ends_lives → b.pins (t.id page) ≡ 0) (writing : Writing t (record w { open_heap = Some p })) (here : IsWriterHere t a (record w { open_heap = Some p })) where
+  module _ (w : Writer Page) (p : OpenPage) (page : Page) (a b : PoolView Page Pin) (c : Changes t (an_open p.frame.number) (a_page (t.id page)) a b) (live : b.live page) (fresh : IsTrue t.ends_lives → b.pins (t.id page) ≡ 0) (writing : Written t (record w { open_heap = Some p })) (here : IsWriterHere t a (record w { open_heap = Some p })) where
     ids_now : (y : ℕ) → writer_ids t (with_sealed (record w { open_heap = None }) page) y ≡ writer_ids t w y + one_of (t.id page) y
     ids_now y = let f = writing.filled in let m = writing.most in sealed_ids t (record w { open_heap = None }) page y (omega (arith, m)) f.0 f.1 f.2 f.3
 
@@ -108,8 +111,9 @@ module _ {Page Pin : Type 0} (t : PoolTerms Page Pin) (w : Writer Page) (closed 
   closed_ids : (y : ℕ) → writer_ids t w y ≡ set_ids t (closed_set w) y
   closed_ids y = ap (λ ps. ids_of t ps y) closed_pages
 
-  pub closed_formed : Writing t w → Formed t (closed_set w)
-  closed_formed writing = record {
+  -- where its pages were packed before it was closed
+  pub closed_formed : (f : Fill) → Written t w → IsPacked f → fill_of w ≡ closed_fill (sealed_fill f) → Formed t (closed_set w)
+  closed_formed f writing packed fill = record {
     columns = writing.columns;
     is_page = writing.is_page;
     pages = writing.pages;
@@ -118,6 +122,9 @@ module _ {Page Pin : Type 0} (t : PoolTerms Page Pin) (w : Writer Page) (closed 
     long = writing.long ∙ ap long_total closed_cells;
     few_rows = writing.few_rows;
     few_long = writing.few_long;
+    asked = let l = ap (λ (g : Fill). g.long) fill in let a = ap (λ (g : Fill). g.asked) fill in let added = packed.added in omega (arith, l, a, added);
+    packed = few_pages t w.layout w.page_bytes w.pages.items f w.rows w.asked_bytes writing.pages writing.is_page (layout_few w.kinds w.layout writing.columns) packed
+        (sym (ap (λ (g : Fill). g.fit) fill)) (sym (ap (λ (g : Fill). g.room) fill)) (sym (ap (λ (g : Fill). g.asked) fill)) (ap (λ (g : Fill). g.done) fill) (writing.counted ∙ ap length closed_cells);
   }
 
   pub closed_unpinned : (a : PoolView Page Pin) → Unpinned t a (writer_ids t w) → Unpinned t a (set_ids t (closed_set w))

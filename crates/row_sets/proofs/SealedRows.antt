@@ -20,7 +20,7 @@ use Rattle.row_image.specs.declared.layout.CellKind.{CellKind}
 use Rattle.rebase_pins.proofs.Values.{seen_long}
 use Rattle.row_sets.specs.Cells.{AllFit, long_total}
 use Rattle.row_sets.specs.Sets.{with_heap, pages_in, page_list, lists_in, joined, IsSetPage, AllSetPages, AreColumns}
-use Rattle.row_sets.specs.Writers.{Writing, IsWriterHere, IsThere, IsBase, IsOpenRows, IsWhole, heaps_now, content_else, if_at, bytes_of, open_in, count_open, used_heaps, open_list, written_cells, written_pages, writer_ids, writer_holding, NoHeaps}
+use Rattle.row_sets.specs.Writers.{Written, IsWriterHere, IsThere, IsBase, IsOpenRows, IsWhole, heaps_now, content_else, if_at, bytes_of, open_in, count_open, used_heaps, open_list, written_cells, written_pages, writer_ids, writer_holding, NoHeaps}
 use Rattle.row_sets.specs.Closing.{IsWithRows, IsClosed}
 use Rattle.row_sets.specs.declared.row_set.SetPage.{SetPage}
 use Rattle.row_sets.specs.declared.writer.Writer.{Writer}
@@ -69,7 +69,7 @@ module _ {Page Pin : Type 0} (t : PoolTerms Page Pin) where
   live_turn a (Some p) (Some b) (Some c) None ps all = (all.1.1.1, (all.0, (all.1.0, (all.1.1.0, tt))))
   live_turn a (Some p) (Some b) (Some c) (Some d) ps all = (all.1.1.1.1, (all.0, (all.1.0, (all.1.1.0, (all.1.1.1.0, tt)))))
 
-  module _ (w w2 : Writer Page) (p : OpenPage) (page : Page) (n : ℕ) (no_heap : w.open_heap ≡ None) (is_rows : w.open_rows ≡ Some p) (k : IsWithRows page n w w2) (none : w2.open_rows ≡ None) (writing : Writing t w) (content : t.content page ≡ flat (Rows w.layout) p.frame.bytes.items) (kind : t.kind page ≡ Rows w.layout) (n_is : n ≡ row_count p.frame.bytes.items) (some_row : 0 < row_count p.frame.bytes.items) where
+  module _ (w w2 : Writer Page) (p : OpenPage) (page : Page) (n : ℕ) (no_heap : w.open_heap ≡ None) (is_rows : w.open_rows ≡ Some p) (k : IsWithRows page n w w2) (none : w2.open_rows ≡ None) (writing : Written t w) (content : t.content page ≡ flat (Rows w.layout) p.frame.bytes.items) (kind : t.kind page ≡ Rows w.layout) (n_is : n ≡ row_count p.frame.bytes.items) (some_row : 0 < row_count p.frame.bytes.items) where
     current : IsOpenRows w.layout w.page_bytes (used_heaps w) w.first_heap (heaps_now t w) p
     current = subst (λ o. IfSome o (IsOpenRows w.layout w.page_bytes (used_heaps w) w.first_heap (heaps_now t w))) is_rows writing.open_rows
 
@@ -126,10 +126,11 @@ module _ {Page Pin : Type 0} (t : PoolTerms Page Pin) where
         let b = four_ids t w.heap0 w.heap1 w.heap2 w.heap3 (pages_in w.pages.items) y in
         omega (arith, e, f, a, b)
 
-    pub page_writing : Differ t (writer_ids t w2) → Writing t w2
+    pub page_writing : Differ t (writer_ids t w2) → Written t w2
     page_writing differ =
         let z = k.sealed_heaps in
         record {
+          packs = tt;
           columns = subst (λ z. AreColumns z w2.layout) (sym k.kinds) (subst (AreColumns w.kinds) (sym k.layout) writing.columns);
           is_page = subst IsPage (sym k.page_bytes) writing.is_page;
           pages = subst (λ l. AllSetPages t w2.layout w2.page_bytes l) (sym k.items) (subst (λ m. AllSetPages t w2.layout m (w.pages.items ++ one ∷ [])) (sym k.page_bytes) (subst (λ l. AllSetPages t l w.page_bytes (w.pages.items ++ one ∷ [])) (sym k.layout) (all_push w.layout w.page_bytes w.pages.items one writing.pages set_page)));
@@ -207,7 +208,7 @@ module _ {Page Pin : Type 0} (t : PoolTerms Page Pin) where
   }
 
   -- a writer without open pages
-  pub is_closed : (w w' : Writer Page) (dest : Option OpenPage) → w.open_rows ≡ None → dest ≡ None → Writing t w → IsClosed (record w { pages = w'.pages; open_rows = dest })
+  pub is_closed : (w w' : Writer Page) (dest : Option OpenPage) → w.open_rows ≡ None → dest ≡ None → Written t w → IsClosed (record w { pages = w'.pages; open_rows = dest })
   is_closed w w' dest rows gone writing =
       let f = writing.filled in
       let waits : (w.sealed_heaps ≡ 0) × (w.open_heap ≡ None) = subst (λ o. NoHeaps o w.sealed_heaps w.open_heap) rows writing.waits in

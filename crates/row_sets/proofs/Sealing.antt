@@ -11,7 +11,7 @@ use Rattle.page_body.specs.declared.open.OpenPage.{OpenPage}
 use Rattle.page_body.specs.PageLists.{ids_of, Differ}
 use Rattle.row_sets.specs.Sets.{with_heap, pages_in, lists_in, joined}
 use Rattle.row_sets.specs.Cells.{long_total}
-use Rattle.row_sets.specs.Writers.{Writing, IsOpenRows, IsBase, IsThere, heaps_now, content_else, if_at, bytes_of, count_used, open_list, written_cells, writer_ids, NoHeaps}
+use Rattle.row_sets.specs.Writers.{Written, IsOpenRows, IsBase, IsThere, heaps_now, content_else, if_at, bytes_of, count_used, open_list, written_cells, writer_ids, NoHeaps}
 use Rattle.row_sets.specs.Closing.{put_at, with_sealed}
 use Rattle.row_sets.specs.declared.writer.Writer.{Writer}
 use Rattle.row_sets.proofs.Changed.{same_or}
@@ -141,7 +141,7 @@ module _ {Page Pin : Type 0} (t : PoolTerms Page Pin) where
       λ i. e0 i ∷ e1 i ∷ e2 i ∷ e3 i ∷ []
 
   -- the writer with its open heap page sealed
-  pub sealed_cells : (w : Writer Page) (p : OpenPage) (page : Page) → Writing t (record w { open_heap = Some p }) → t.content page ≡ bytes_of (Some p) → written_cells t (with_sealed (record w { open_heap = None }) page) ≡ written_cells t (record w { open_heap = Some p })
+  pub sealed_cells : (w : Writer Page) (p : OpenPage) (page : Page) → Written t (record w { open_heap = Some p }) → t.content page ≡ bytes_of (Some p) → written_cells t (with_sealed (record w { open_heap = None }) page) ≡ written_cells t (record w { open_heap = Some p })
   sealed_cells w p page writing same =
       let f = writing.filled in
       ap (λ heaps. joined (lists_in t w.layout w.pages.items) ++ open_list w.layout heaps w.open_rows) (sealed_heaps_same w p page f.0 f.1 f.2 f.3 same)
@@ -157,7 +157,7 @@ module _ {Page Pin : Type 0} (t : PoolTerms Page Pin) where
       some_none p e = cc
   rows_there (Some rows) s n p waits = tt
 
-  pub sealed_writing : (w : Writer Page) (p : OpenPage) (page : Page) → Writing t (record w { open_heap = Some p }) → count_used (Some p) ≡ 1 → t.content page ≡ bytes_of (Some p) → t.kind page ≡ Heap → Differ t (writer_ids t (with_sealed (record w { open_heap = None }) page)) → Writing t (with_sealed (record w { open_heap = None }) page)
+  pub sealed_writing : (w : Writer Page) (p : OpenPage) (page : Page) → Written t (record w { open_heap = Some p }) → count_used (Some p) ≡ 1 → t.content page ≡ bytes_of (Some p) → t.kind page ≡ Heap → Differ t (writer_ids t (with_sealed (record w { open_heap = None }) page)) → Written t (with_sealed (record w { open_heap = None }) page)
   sealed_writing w p page writing used same kind differ =
       let s = w.sealed_heaps in
       let f = writing.filled in
@@ -166,6 +166,7 @@ module _ {Page Pin : Type 0} (t : PoolTerms Page Pin) where
       let count : s + count_used (Some p) ≡ s + 1 + 0 = omega (arith, used) in
       let cells = sealed_cells w p page writing same in
       record {
+        packs = tt;
         columns = writing.columns;
         is_page = writing.is_page;
         pages = writing.pages;

@@ -6,7 +6,7 @@ use Rattle.page_body.specs.PageLists.{ids_of, Differ}
 use Rattle.row_sets.specs.Holds.{Holding, nothing, both, IsOwned}
 use Rattle.row_sets.specs.Changes.{Changes}
 use Rattle.row_sets.specs.Sets.{IsHere, NoRowPins, Formed, set_pages, set_ids, row_pages_in}
-use Rattle.row_sets.specs.Writers.{Writing, IsWriterHere, writer_holding, writer_ids, written_pages}
+use Rattle.row_sets.specs.Writers.{WritingWith, IsWriterHere, writer_holding, writer_ids, written_pages}
 use Rattle.row_sets.specs.declared.row_set.RowSet.{RowSet}
 use Rattle.row_sets.specs.declared.writer.Writer.{Writer}
 use Rattle.row_sets.proofs.Changed.{changes_kept, live_on, differ_on, owned_on, unpinned_on}
@@ -46,7 +46,7 @@ module _ {Page Pin : Type 0} (t : PoolTerms Page Pin) where
   pub set_kept : (set : RowSet Page) (a b : PoolView Page Pin) → Kept a b → Formed t set → IsHere a set → IsHere b set
   set_kept set a b kept formed here = set_stays set nothing nothing a b (changes_kept t nothing a b kept) (λ ends y. let m = formed.differ ends y in omega (arith, m)) here
 
-  pub writer_kept : (w : Writer Page) (a b : PoolView Page Pin) → Kept a b → Writing t w → IsWriterHere t a w → IsWriterHere t b w
+  pub writer_kept : {More : Type 0} (w : Writer Page) (a b : PoolView Page Pin) → Kept a b → WritingWith More t w → IsWriterHere t a w → IsWriterHere t b w
   writer_kept w a b kept writing here =
       writer_stays w nothing nothing a b (changes_kept t nothing a b kept) nothing_has_no_pins nothing_has_no_pins
       (λ ends y. let m = writing.differ ends y in omega (arith, m))

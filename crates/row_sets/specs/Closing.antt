@@ -43,6 +43,7 @@ pub record IsWithRows {H : Type 0} (page : H) (rows : ℕ) (old new : Writer H) 
   pub open_heap : new.open_heap ≡ old.open_heap
   pub rows_are : new.rows ≡ old.rows
   pub long_is : new.long_bytes ≡ old.long_bytes
+  pub asked_is : new.asked_bytes ≡ old.asked_bytes
   pub items : new.pages.items ≡ old.pages.items ++ record { page = record { rows = page; heap0 = old.heap0; heap1 = old.heap1; heap2 = old.heap2; heap3 = old.heap3 }; rows = rows } ∷ []
   pub heap0 : new.heap0 ≡ None
   pub heap1 : new.heap1 ≡ None
@@ -53,7 +54,7 @@ pub record IsWithRows {H : Type 0} (page : H) (rows : ℕ) (old new : Writer H) 
   pub low : new.first_heap < no_heap
 
 abbrev pub closed_set : {H : Type 0} → Writer H → RowSet H
-closed_set w = record { kinds = w.kinds; layout = w.layout; page_bytes = w.page_bytes; pages = w.pages; rows = w.rows; long_bytes = w.long_bytes }
+closed_set w = record { kinds = w.kinds; layout = w.layout; page_bytes = w.page_bytes; pages = w.pages; rows = w.rows; long_bytes = w.long_bytes; asked_bytes = w.asked_bytes }
 
 -- the same columns, for pages of the same length
 pub record SameColumns {H : Type 0} (old new : Writer H) : Type 0 where

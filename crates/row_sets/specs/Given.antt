@@ -26,6 +26,7 @@ pub record IsNewWriter {Page : Type 0} (kinds : List SqlType) (page_bytes : ℕ)
   pub first_heap : w.first_heap ≡ 0
   pub rows : w.rows ≡ 0
   pub long : w.long_bytes ≡ 0
+  pub asked : w.asked_bytes ≡ 0
 
 -- what a call that gives a set, or is refused, gives
 abbrev pub set_given : {Page Pin : Type 0} → PoolTerms Page Pin → Result (RowSet Page) PoolFault → Holding

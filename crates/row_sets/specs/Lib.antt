@@ -3,6 +3,7 @@ pub mod SetRows
 pub mod LongTexts
 pub mod Put
 pub mod Holds
+pub mod Packed
 pub mod Changes
 pub mod Sets
 pub mod Writers

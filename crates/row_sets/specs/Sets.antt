@@ -4,7 +4,7 @@ use Rattle.ooc_types.specs.declared.schema.SqlType.{SqlType}
 use Rattle.row_image.specs.declared.limits.TheConstants.{MOST_COLUMNS, MOST_TEXTS}
 use Rattle.row_image.specs.declared.layout.CellKind.{CellKind}
 use Rattle.row_image.specs.Bytes.{IsPage}
-use Rattle.row_image.specs.Layout.{rows_that_fit}
+use Rattle.row_image.specs.Layout.{rows_that_fit, width_of}
 use Rattle.row_image.specs.Rules.{text_limit}
 use Rattle.row_image.specs.Texts.{ValueRow}
 use Rattle.page_body.specs.View.{PoolTerms, PoolView}
@@ -12,6 +12,7 @@ use Rattle.page_body.specs.PageLists.{ids_of, Differ, AllLive}
 use Rattle.rebase_pins.specs.RowPages.{IsFormed as IsRowPage}
 use Rattle.rebase_pins.specs.Rows.{rows_of_page}
 use Rattle.rebase_pins.specs.declared.row_page.RowPage.{RowPage}
+use Rattle.row_sets.specs.Packed.{packed_pages}
 use Rattle.row_sets.specs.declared.limits.TheConstants.{MOST_ROWS, MOST_LONG}
 use Rattle.row_sets.specs.Holds.{Holding, pages_only, Unpinned}
 use Rattle.row_sets.specs.Cells.{AllFit, text_columns, long_total}
@@ -100,6 +101,8 @@ pub record Formed {Page Pin : Type 0} (t : PoolTerms Page Pin) (set : RowSet Pag
   pub long : set.long_bytes ≡ long_total (set_cells t set)
   pub few_rows : set.rows ≤ MOST_ROWS
   pub few_long : set.long_bytes ≤ MOST_LONG
+  pub asked : set.long_bytes ≤ set.asked_bytes
+  pub packed : length (set_pages set) ≤ packed_pages set.rows set.asked_bytes (width_of set.layout) set.page_bytes
 
 -- what of it depends on the state: its pages are live, in a pool of such pages
 pub record IsHere {Page : Type 0} {Pin : Type 0} (a : PoolView Page Pin) (set : RowSet Page) : Type 0 where

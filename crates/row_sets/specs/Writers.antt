@@ -19,6 +19,7 @@ use Rattle.page_body.specs.PageLists.{ids_of, Differ, AllLive}
 use Rattle.page_body.specs.declared.open.OpenPage.{OpenPage}
 use Rattle.rebase_pins.specs.Rows.{page_rows}
 use Rattle.row_sets.specs.declared.limits.TheConstants.{MOST_ROWS, MOST_LONG}
+use Rattle.row_sets.specs.Packed.{Packs}
 use Rattle.row_sets.specs.Holds.{Holding, IsOwned, Unpinned}
 use Rattle.row_sets.specs.Cells.{AllFit, long_total}
 use Rattle.row_sets.specs.SetRows.{SetRow, row_as}
@@ -146,8 +147,9 @@ abbrev pub NoHeaps : Option OpenPage → ℕ → Option OpenPage → Type 0
 NoHeaps None count heap = (count ≡ 0) × (heap ≡ None)
 NoHeaps (Some page) count heap = ⊤
 
--- What is known of a writer whatever is called on others: it speaks of no state.
-pub record Writing {Page Pin : Type 0} (t : PoolTerms Page Pin) (w : Writer Page) : Type 0 where
+-- What is known of a writer whatever is called on others, and something more: it speaks of no state.
+pub record WritingWith {Page Pin : Type 0} (More : Type 0) (t : PoolTerms Page Pin) (w : Writer Page) : Type 0 where
+  pub packs : More
   pub columns : AreColumns w.kinds w.layout
   pub is_page : IsPage w.page_bytes
   pub pages : AllSetPages t w.layout w.page_bytes w.pages.items
@@ -164,6 +166,14 @@ pub record Writing {Page Pin : Type 0} (t : PoolTerms Page Pin) (w : Writer Page
   pub long : w.long_bytes ≡ long_total (written_cells t w)
   pub few_rows : w.rows ≤ MOST_ROWS
   pub few_long : w.long_bytes ≤ MOST_LONG
+
+-- its pages are sound, however they are filled
+abbrev pub Written : {Page Pin : Type 0} → PoolTerms Page Pin → Writer Page → Type 0
+Written t w = WritingWith ⊤ t w
+
+-- and it packs its pages
+abbrev pub Writing : {Page Pin : Type 0} → PoolTerms Page Pin → Writer Page → Type 0
+Writing t w = WritingWith (Packs w) t w
 
 -- what of it depends on the state: its pages are live and unpinned, and its open pages are this worker's
 pub record IsWriterHere {Page Pin : Type 0} (t : PoolTerms Page Pin) (a : PoolView Page Pin) (w : Writer Page) : Type 0 where

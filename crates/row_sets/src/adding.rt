@@ -1,5 +1,5 @@
 //! Adding rows to a set that is being written.
-ghost use Rattle.std.specs.Prelude.{◌≡◌, ◌+◌, ◌≤◌, ◌<◌, ◌^◌, ◌∷◌, ◌++◌, [], ◌↔◌, IsTrue, IfSome, false, length, map};
+ghost use Rattle.std.specs.Prelude.{◌≡◌, ◌+◌, ◌≤◌, ◌<◌, ◌^◌, ◌∷◌, ◌++◌, [], ◌↔◌, IsTrue, IfSome, false, length, map, max};
 ghost use Rattle.row_image.specs.declared.image.ImageKind.TheVariants.{Rows, Heap};
 ghost use Rattle.row_image.specs.Bytes.{IsPage};
 ghost use Rattle.row_image.specs.Image.{no_heap};
@@ -7,7 +7,8 @@ ghost use Rattle.row_image.specs.Rules.{text_limit};
 ghost use Rattle.rebase_pins.specs.Seen.{value_read};
 ghost use Rattle.rebase_pins.specs.Fits.{RowFits};
 ghost use Rattle.row_sets.specs.Cells.{long_in};
-ghost use Rattle.row_sets.specs.Writers.{HasRoom, HeapHasRoom, RowsHaveRoom, IsWhole, Writing, written_cells, number_of};
+ghost use Rattle.row_sets.specs.Packed.{IsAddedTo, fill_of};
+ghost use Rattle.row_sets.specs.Writers.{HasRoom, HeapHasRoom, RowsHaveRoom, IsWhole, Writing, Written, written_cells, number_of};
 ghost use Rattle.row_sets.specs.Adding.{KeepsPlace};
 
 use crate::limits::{MOST_LONG, MOST_ROWS};
@@ -20,11 +21,13 @@ use row_image::{Layout, row_count};
 use string_heap::room;
 
 /// Adds a row at the end, where the open pages have room for it. Where they haven't it answers false, and nothing changes.
+/// Its long texts are asked for, but where more was asked for before than was added.
 pub fn try_append<P: Pages>(writer: &mut Writer<P::Page>, row: &[CellRead], hash: u64) -> bool
     requires writing { Writing P.terms writer.old }
     requires fits { RowFits writer.old.layout (text_limit writer.old.page_bytes) (map value_read row.now) }
     ensures wrote { IsTrue result ↔ HasRoom writer.old (long_in (map value_read row.now)) }
     ensures rows { IsTrue result → written_cells P.terms writer.new ≡ written_cells P.terms writer.old ++ record { hash = hash; values = map value_read row.now } ∷ [] }
+    ensures asked { IsTrue result → writer.new.asked_bytes ≡ max writer.old.asked_bytes writer.new.long_bytes }
     ensures same { result ≡ false → writer.new ≡ writer.old }
     ensures writing { Writing P.terms writer.new }
     ensures place { KeepsPlace P.terms writer.old writer.new }
@@ -43,7 +46,7 @@ pub fn try_append<P: Pages>(writer: &mut Writer<P::Page>, row: &[CellRead], hash
 
 /// Whether a row with so many bytes of long texts can be written without the pool.
 pub fn has_room<P: Pages>(writer: &Writer<P::Page>, long: u64) -> bool
-    requires { Writing P.terms writer.now }
+    requires { Written P.terms writer.now }
     ensures { IsTrue result ↔ HasRoom writer.now long }
 {
     writer.rows < MOST_ROWS
@@ -79,12 +82,16 @@ pub fn heap_has_room(page_bytes: u32, heap: &Option<OpenPage>, long: u64) -> boo
 
 // Adds a row without long texts.
 fn add_short<P: Pages>(writer: &mut Writer<P::Page>, row: &[CellRead], hash: u64)
-    requires writing { Writing P.terms writer.old }
+    requires writing { Written P.terms writer.old }
     requires fits { RowFits writer.old.layout (text_limit writer.old.page_bytes) (map value_read row.now) }
     requires room { HasRoom writer.old (long_in (map value_read row.now)) }
+    requires added { writer.old.long_bytes ≤ writer.old.asked_bytes }
     requires short { long_in (map value_read row.now) ≡ 0 }
     ensures rows { written_cells P.terms writer.new ≡ written_cells P.terms writer.old ++ record { hash = hash; values = map value_read row.now } ∷ [] }
-    ensures writing { Writing P.terms writer.new }
+    ensures writing { Written P.terms writer.new }
+    ensures fill { IsAddedTo (fill_of writer.old) 0 (fill_of writer.new) }
+    ensures asked { writer.new.asked_bytes ≡ writer.old.asked_bytes }
+    ensures long { writer.new.long_bytes ≡ writer.old.long_bytes }
     ensures place { KeepsPlace P.terms writer.old writer.new }
 {
     match &mut writer.open_rows {
@@ -96,13 +103,15 @@ fn add_short<P: Pages>(writer: &mut Writer<P::Page>, row: &[CellRead], hash: u64
 
 // Adds a row with long texts.
 fn add_long<P: Pages>(writer: &mut Writer<P::Page>, row: &[CellRead], hash: u64, long: u64)
-    requires writing { Writing P.terms writer.old }
+    requires writing { Written P.terms writer.old }
     requires fits { RowFits writer.old.layout (text_limit writer.old.page_bytes) (map value_read row.now) }
     requires room { HasRoom writer.old (long_in (map value_read row.now)) }
     requires is_long { long ≡ long_in (map value_read row.now) }
     requires some { 0 < long }
     ensures rows { written_cells P.terms writer.new ≡ written_cells P.terms writer.old ++ record { hash = hash; values = map value_read row.now } ∷ [] }
-    ensures writing { Writing P.terms writer.new }
+    ensures writing { Written P.terms writer.new }
+    ensures fill { IsAddedTo (fill_of writer.old) long (fill_of writer.new) }
+    ensures asked { writer.new.asked_bytes ≡ max writer.old.asked_bytes writer.new.long_bytes }
     ensures place { KeepsPlace P.terms writer.old writer.new }
 {
     let number = number_of(writer.first_heap, writer.sealed_heaps);
@@ -113,6 +122,7 @@ fn add_long<P: Pages>(writer: &mut Writer<P::Page>, row: &[CellRead], hash: u64,
     }
     writer.rows += 1;
     writer.long_bytes += long;
+    writer.asked_bytes = writer.asked_bytes.max(writer.long_bytes);
 }
 
 /// The number of a heap page.

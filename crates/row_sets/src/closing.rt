@@ -8,7 +8,8 @@ ghost use Rattle.row_sets.specs.Changes.{Changes};
 ghost use Rattle.row_sets.specs.Sets.{Formed, IsHere, set_cells, set_ids};
 ghost use Rattle.row_sets.specs.Given.{set_given, open_holding};
 ghost use Rattle.row_sets.specs.Closing.{IsClosed, IsFree, with_sealed, IsWithRows, SameColumns, closed_set};
-ghost use Rattle.row_sets.specs.Writers.{number_of, used_heaps, written_cells, writer_holding, Writing, IsWriterHere};
+ghost use Rattle.row_sets.specs.Packed.{IsLeft, closed_fill, fill_of, sealed_fill};
+ghost use Rattle.row_sets.specs.Writers.{number_of, used_heaps, written_cells, writer_holding, Writing, Written, IsWriterHere};
 
 use crate::adding::number_of;
 use crate::retire::{retire_heap, retire_pages};
@@ -29,6 +30,7 @@ pub fn finish<P: Pages>(
     requires here { IsWriterHere P.terms (P.view pages.old) writer }
     ensures cells { IfOk result (λ set. set_cells P.terms set ≡ written_cells P.terms writer) }
     ensures kinds { IfOk result (λ set. set.kinds ≡ writer.kinds) }
+    ensures asked { IfOk result (λ set. set.asked_bytes ≡ writer.asked_bytes) }
     ensures formed { IfOk result (Formed P.terms) }
     ensures here { IfOk result (IsHere (P.view pages.new)) }
     ensures unpinned { IfOk result (λ set. Unpinned P.terms (P.view pages.new) (set_ids P.terms set)) }
@@ -39,7 +41,7 @@ pub fn finish<P: Pages>(
     match close_page(&mut writer, pages) {
         Ok(()) => Ok(as_set(writer)),
         Err(fault) => {
-            abandon(writer, pages);
+            give_up(writer, pages);
             Err(fault)
         }
     }
@@ -47,12 +49,15 @@ pub fn finish<P: Pages>(
 
 /// Ends the open row page: it is sealed with its heap pages where it has rows, and else given up.
 pub fn close_page<P: Pages>(writer: &mut Writer<P::Page>, pages: &mut P) -> Result<(), PoolFault>
-    requires writing { Writing P.terms writer.old }
+    requires writing { Written P.terms writer.old }
     requires here { IsWriterHere P.terms (P.view pages.old) writer.old }
     ensures closed { OnOk result (IsClosed writer.new) }
     ensures cells { written_cells P.terms writer.new ≡ written_cells P.terms writer.old }
+    ensures fill { OnOk result (fill_of writer.new ≡ closed_fill (sealed_fill (fill_of writer.old))) }
+    ensures left { OnErr result (IsLeft (fill_of writer.old) (fill_of writer.new)) }
+    ensures asked { writer.new.asked_bytes ≡ writer.old.asked_bytes }
     ensures columns { SameColumns writer.old writer.new }
-    ensures writing { Writing P.terms writer.new }
+    ensures writing { Written P.terms writer.new }
     ensures here { IsWriterHere P.terms (P.view pages.new) writer.new }
     ensures cause { IfErr result (λ fault. fault ≡ PoolFault.OutOfMemory) }
     ensures changes { Changes P.terms (writer_holding P.terms writer.old) (writer_holding P.terms writer.new) (P.view pages.old) (P.view pages.new) }
@@ -65,12 +70,14 @@ pub fn close_page<P: Pages>(writer: &mut Writer<P::Page>, pages: &mut P) -> Resu
 
 // Gives up a heap page that has no text.
 fn drop_empty_heap<P: Pages>(writer: &mut Writer<P::Page>, pages: &mut P)
-    requires writing { Writing P.terms writer.old }
+    requires writing { Written P.terms writer.old }
     requires here { IsWriterHere P.terms (P.view pages.old) writer.old }
     ensures used { IfSome writer.new.open_heap (λ page. 0 < used page.frame.bytes.items) }
     ensures cells { written_cells P.terms writer.new ≡ written_cells P.terms writer.old }
+    ensures fill { fill_of writer.new ≡ fill_of writer.old }
+    ensures asked { writer.new.asked_bytes ≡ writer.old.asked_bytes }
     ensures columns { SameColumns writer.old writer.new }
-    ensures writing { Writing P.terms writer.new }
+    ensures writing { Written P.terms writer.new }
     ensures here { IsWriterHere P.terms (P.view pages.new) writer.new }
     ensures changes { Changes P.terms (writer_holding P.terms writer.old) (writer_holding P.terms writer.new) (P.view pages.old) (P.view pages.new) }
 {
@@ -84,14 +91,16 @@ fn drop_empty_heap<P: Pages>(writer: &mut Writer<P::Page>, pages: &mut P)
 
 // Gives up a row page that has no row, where no heap page is open.
 fn drop_empty_rows<P: Pages>(writer: &mut Writer<P::Page>, pages: &mut P)
-    requires writing { Writing P.terms writer.old }
+    requires writing { Written P.terms writer.old }
     requires here { IsWriterHere P.terms (P.view pages.old) writer.old }
     requires sealed { writer.old.open_heap ≡ None }
     ensures some { IfSome writer.new.open_rows (λ page. 0 < row_count page.frame.bytes.items) }
     ensures sealed { writer.new.open_heap ≡ None }
     ensures cells { written_cells P.terms writer.new ≡ written_cells P.terms writer.old }
+    ensures fill { fill_of writer.new ≡ fill_of writer.old }
+    ensures asked { writer.new.asked_bytes ≡ writer.old.asked_bytes }
     ensures columns { SameColumns writer.old writer.new }
-    ensures writing { Writing P.terms writer.new }
+    ensures writing { Written P.terms writer.new }
     ensures here { IsWriterHere P.terms (P.view pages.new) writer.new }
     ensures changes { Changes P.terms (writer_holding P.terms writer.old) (writer_holding P.terms writer.new) (P.view pages.old) (P.view pages.new) }
 {
@@ -105,15 +114,18 @@ fn drop_empty_rows<P: Pages>(writer: &mut Writer<P::Page>, pages: &mut P)
 
 /// Seals the heap page that is open, if there is one.
 pub fn seal_heap<P: Pages>(writer: &mut Writer<P::Page>, pages: &mut P) -> Result<(), PoolFault>
-    requires writing { Writing P.terms writer.old }
+    requires writing { Written P.terms writer.old }
     requires here { IsWriterHere P.terms (P.view pages.old) writer.old }
     requires used { IfSome writer.old.open_heap (λ page. 0 < used page.frame.bytes.items) }
     ensures sealed { OnOk result (writer.new.open_heap ≡ None) }
     ensures count { OnOk result (writer.new.sealed_heaps ≡ used_heaps writer.old) }
     ensures open_rows { writer.new.open_rows ≡ writer.old.open_rows }
     ensures cells { written_cells P.terms writer.new ≡ written_cells P.terms writer.old }
+    ensures fill { OnOk result (fill_of writer.new ≡ sealed_fill (fill_of writer.old)) }
+    ensures same { OnErr result (fill_of writer.new ≡ fill_of writer.old) }
+    ensures asked { writer.new.asked_bytes ≡ writer.old.asked_bytes }
     ensures columns { SameColumns writer.old writer.new }
-    ensures writing { Writing P.terms writer.new }
+    ensures writing { Written P.terms writer.new }
     ensures here { IsWriterHere P.terms (P.view pages.new) writer.new }
     ensures cause { IfErr result (λ fault. fault ≡ PoolFault.OutOfMemory) }
     ensures changes { Changes P.terms (writer_holding P.terms writer.old) (writer_holding P.terms writer.new) (P.view pages.old) (P.view pages.new) }
@@ -182,14 +194,17 @@ fn end<H>(slot: Option<H>)
 
 // Seals the row page that is open, if there is one, where no heap page is open.
 fn seal_rows<P: Pages>(writer: &mut Writer<P::Page>, pages: &mut P) -> Result<(), PoolFault>
-    requires writing { Writing P.terms writer.old }
+    requires writing { Written P.terms writer.old }
     requires here { IsWriterHere P.terms (P.view pages.old) writer.old }
     requires sealed { writer.old.open_heap ≡ None }
     requires some { IfSome writer.old.open_rows (λ page. 0 < row_count page.frame.bytes.items) }
     ensures closed { OnOk result (IsClosed writer.new) }
     ensures cells { written_cells P.terms writer.new ≡ written_cells P.terms writer.old }
+    ensures fill { OnOk result (fill_of writer.new ≡ closed_fill (fill_of writer.old)) }
+    ensures same { OnErr result (fill_of writer.new ≡ fill_of writer.old) }
+    ensures asked { writer.new.asked_bytes ≡ writer.old.asked_bytes }
     ensures columns { SameColumns writer.old writer.new }
-    ensures writing { Writing P.terms writer.new }
+    ensures writing { Written P.terms writer.new }
     ensures here { IsWriterHere P.terms (P.view pages.new) writer.new }
     ensures cause { IfErr result (λ fault. fault ≡ PoolFault.OutOfMemory) }
     ensures changes { Changes P.terms (writer_holding P.terms writer.old) (writer_holding P.terms writer.new) (P.view pages.old) (P.view pages.new) }
@@ -261,6 +276,7 @@ fn as_set<H>(writer: Writer<H>) -> RowSet<H>
         first_heap: _first_heap,
         rows,
         long_bytes,
+        asked_bytes,
     } = writer;
     end(heap0);
     end(heap1);
@@ -273,12 +289,22 @@ fn as_set<H>(writer: Writer<H>) -> RowSet<H>
         pages,
         rows,
         long_bytes,
+        asked_bytes,
     }
 }
 
 /// Gives a writer up with all its pages. It can't be refused.
 pub fn abandon<P: Pages>(writer: Writer<P::Page>, pages: &mut P)
     requires writing { Writing P.terms writer }
+    requires here { IsWriterHere P.terms (P.view pages.old) writer }
+    ensures { Changes P.terms (writer_holding P.terms writer) nothing (P.view pages.old) (P.view pages.new) }
+{
+    give_up(writer, pages);
+}
+
+// Gives a writer up, however its pages are filled.
+fn give_up<P: Pages>(writer: Writer<P::Page>, pages: &mut P)
+    requires writing { Written P.terms writer }
     requires here { IsWriterHere P.terms (P.view pages.old) writer }
     ensures { Changes P.terms (writer_holding P.terms writer) nothing (P.view pages.old) (P.view pages.new) }
 {
@@ -297,6 +323,7 @@ pub fn abandon<P: Pages>(writer: Writer<P::Page>, pages: &mut P)
         first_heap: _first_heap,
         rows: _rows,
         long_bytes: _long_bytes,
+        asked_bytes: _asked_bytes,
     } = writer;
     discard_open(pages, open_rows);
     discard_open(pages, open_heap);

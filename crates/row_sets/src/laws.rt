@@ -1,7 +1,8 @@
-//! How many pages a set has at least. The functions do nothing; their contracts say the laws.
+//! How many pages a set has. The functions do nothing; their contracts say the laws.
 ghost use Rattle.std.specs.Prelude.{◌*◌, ◌≤◌, length};
 ghost use Rattle.row_image.specs.Layout.{width_of};
 ghost use Rattle.page_body.specs.PageLists.{AllLive, Differ, ids_of};
+ghost use Rattle.row_sets.specs.Packed.{packed_pages};
 ghost use Rattle.row_sets.specs.Sets.{Formed, IsHere, set_pages, row_pages_in};
 
 use crate::row_set::RowSet;
@@ -16,4 +17,11 @@ pub fn rows_lie_on_pages<P: Pages>(_pages: &P, _set: &RowSet<P::Page>)
     ensures among { length (row_pages_in _set.now.pages.items) ≤ length (set_pages _set.now) }
     ensures live { AllLive (P.view _pages.now) (set_pages _set.now) }
     ensures differ { Differ P.terms (ids_of P.terms (set_pages _set.now)) }
+{}
+
+/// A set has few pages: at most so many as its rows take, and the long texts for which its writer was asked for room.
+pub fn sets_are_packed<P: Pages>(_set: &RowSet<P::Page>)
+    requires { Formed P.terms _set.now }
+    ensures pages { length (set_pages _set.now) ≤ packed_pages _set.now.rows _set.now.asked_bytes (width_of _set.now.layout) _set.now.page_bytes }
+    ensures asked { _set.now.long_bytes ≤ _set.now.asked_bytes }
 {}

@@ -19,7 +19,7 @@ pub use adding::try_append;
 pub use closing::{abandon, finish};
 pub use cursor::{Cursor, pin_page};
 pub use kinds::{Kinds, layout_of};
-pub use laws::rows_lie_on_pages;
+pub use laws::{rows_lie_on_pages, sets_are_packed};
 pub use limits::{MOST_LONG, MOST_ROWS};
 pub use opening::{append, get_room};
 pub use retire::retire_set;

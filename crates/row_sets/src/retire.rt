@@ -24,6 +24,7 @@ pub fn retire_set<P: Pages>(pages: &mut P, set: RowSet<P::Page>)
         pages: all,
         rows: _rows,
         long_bytes: _long_bytes,
+        asked_bytes: _asked_bytes,
     } = set;
     retire_pages(pages, all);
 }

@@ -12,7 +12,7 @@ pub struct SetPage<H> {
     pub rows: u64,
 }
 
-/// A set of rows on sealed pages.
+/// A set of rows on sealed pages. Of long texts it has the bytes, and those for which its writer was asked for room.
 pub struct RowSet<H> {
     pub kinds: Kinds,
     pub layout: Layout,
@@ -20,6 +20,7 @@ pub struct RowSet<H> {
     pub pages: Vec<SetPage<H>>,
     pub rows: u64,
     pub long_bytes: u64,
+    pub asked_bytes: u64,
 }
 
 impl<H> RowSet<H> {
@@ -72,5 +73,13 @@ impl<H> RowSet<H> {
         ensures { result ≡ self.now.long_bytes }
     {
         self.long_bytes
+    }
+
+    /// For how many bytes of such texts its writer was asked for room: `long_bytes`, where each row was added that room was
+    /// got for.
+    pub fn asked_bytes(&self) -> u64
+        ensures { result ≡ self.now.asked_bytes }
+    {
+        self.asked_bytes
     }
 }

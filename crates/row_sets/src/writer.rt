@@ -11,7 +11,8 @@ use row_image::Layout;
 use std::alloc::Global;
 
 /// A set that is being written: its row pages that are done, the row page and the heap page that are open, and the heap
-/// pages of the open row page that are sealed.
+/// pages of the open row page that are sealed. Of long texts it counts the bytes that were added, and those that were asked
+/// for: what was added, and what a heap page was sealed for that wasn't added yet.
 pub struct Writer<H> {
     pub kinds: Kinds,
     pub layout: Layout,
@@ -27,6 +28,7 @@ pub struct Writer<H> {
     pub first_heap: u32,
     pub rows: u64,
     pub long_bytes: u64,
+    pub asked_bytes: u64,
 }
 
 impl<H> Writer<H> {
@@ -51,6 +53,7 @@ impl<H> Writer<H> {
             first_heap: 0,
             rows: 0,
             long_bytes: 0,
+            asked_bytes: 0,
         }
     }
 }

@@ -84,11 +84,13 @@ fn count_on_page<P: Pages>(
     }
 }
 
-fn count_one(count: usize, is: bool) -> usize {
+/// One more where it is so.
+pub fn count_one(count: usize, is: bool) -> usize {
     if is { count.saturating_add(1) } else { count }
 }
 
-fn is_row(read: Option<u64>, row: &Row, hash: u64, wanted: &Row) -> bool {
+/// Whether a row that was read is the one that is wanted, and its hash.
+pub fn is_row(read: Option<u64>, row: &Row, hash: u64, wanted: &Row) -> bool {
     read == Some(hash) && are_same(row.as_slice(), wanted.as_slice())
 }
 

@@ -1,5 +1,7 @@
 //! Runs at the pool in memory and at the pool of one thread with 24 frames.
 
+ghost use Rattle.std.specs.Prelude.{◌≡◌, ◌+◌, ◌≤◌, length};
+
 use super::*;
 use ooc_io::MemLane;
 use ooc_types::{Row, SqlType, Text, Value};
@@ -226,5 +228,133 @@ fn rows_come_back_from_a_set_and_from_its_copy(rt: HostRuntime) -> Result<(), Fa
         let good = try_case(rt.alloc(), &cases[place]);
         assert!(rt; good == Ok(true));
     }
+    Ok(())
+}
+
+fn put(image: &mut [u8; 4096], place: usize, bytes: &[u8])
+    requires long { length image.old ≡ 4096 }
+    requires room { place + length bytes.now ≤ 4096 }
+    ensures { length image.new ≡ 4096 }
+{
+    let image: &mut [u8] = image;
+    image[place..place + bytes.len()].copy_from_slice(bytes);
+}
+
+// A row page of three rows of a number and a text, 29 bytes each, in one part of the heap page 0, which lies in frame 1 at
+// the base 4096: 7 and a text of 13 bytes at 4160; NULL and `xy`; -1 and a text of 14 bytes at 4173. Their hashes are 0 to 2.
+fn three_rows() -> [u8; 4096]
+    ensures { length result ≡ 4096 }
+{
+    let mut image = [0; 4096];
+    put(&mut image, 0, &[1, 0, 0, 0, 29, 0, 0, 0, 3, 0, 0, 0, 1]);
+    put(&mut image, 36, &[3, 0, 0, 0, 0, 0, 0, 0, 0, 0, 0, 0, 0, 16]);
+    put(
+        &mut image,
+        137,
+        &[7, 0, 0, 0, 13, 0, 0, 0, b'a', b'b', b'c', b'd', 64, 16],
+    );
+    put(&mut image, 157, &[1, 1]);
+    put(&mut image, 170, &[2, 0, 0, 0, b'x', b'y']);
+    put(&mut image, 187, &[2]);
+    put(
+        &mut image,
+        195,
+        &[
+            255, 255, 255, 255, 14, 0, 0, 0, b'n', b'o', b'p', b'q', 77, 16,
+        ],
+    );
+    image
+}
+
+// Their heap page: the two long texts behind its head.
+fn two_texts() -> [u8; 4096]
+    ensures { length result ≡ 4096 }
+{
+    let mut image = [0; 4096];
+    put(&mut image, 0, &[2, 0, 0, 0, 27]);
+    put(&mut image, 64, b"abcdefghijklmnopqrstuvwxyzA");
+    image
+}
+
+// A row of a number or NULL, and a text.
+fn pair(alloc: Global, number: Option<i128>, text: &[u8]) -> Result<Row, PoolFault> {
+    let mut bytes = Vec::new(alloc);
+    for place in 0..text.len() {
+        bytes.push(text[place])?;
+    }
+    let first = match number {
+        Some(digits) => Value::Number { digits, scale: 0 },
+        None => Value::Null,
+    };
+    let mut row = Row::new_row(alloc);
+    if row.push(first).is_err() {
+        return Err(PoolFault::OutOfMemory);
+    }
+    if row.push(Value::Text(Text::from_vec(bytes))).is_err() {
+        return Err(PoolFault::OutOfMemory);
+    }
+    Ok(row)
+}
+
+fn three(alloc: Global) -> Result<Vec<Row>, PoolFault> {
+    let mut rows = Vec::new(alloc);
+    let first = pair(alloc, Some(7), b"abcdefghijklm")?;
+    rows.push(first)?;
+    let second = pair(alloc, None, b"xy")?;
+    rows.push(second)?;
+    let third = pair(alloc, Some(-1), b"nopqrstuvwxyzA")?;
+    rows.push(third)?;
+    Ok(rows)
+}
+
+fn writes_three(alloc: Global, rows: &[u8], heap: &[u8]) -> Result<bool, PoolFault> {
+    let written = three(alloc)?;
+    let mut pages = MemPages::new_pages(alloc, 4096, 24);
+    writes_images(
+        alloc,
+        &mut pages,
+        &[SqlType::Integer, SqlType::Varchar],
+        written.as_slice(),
+        Images { rows, heap },
+    )
+}
+
+#[test]
+fn pages_have_the_bytes_of_their_format(rt: HostRuntime) -> Result<(), Fail> {
+    let rows = three_rows();
+    let heap = two_texts();
+    let same = writes_three(rt.alloc(), &rows, &heap);
+    assert!(rt; same == Ok(true));
+    Ok(())
+}
+
+fn over_failing_reads(
+    alloc: Global,
+    failing: &[u64],
+    case: &Case,
+) -> Result<Option<Again>, PoolFault> {
+    let rows = rows_of(alloc, case, case.count)?;
+    let mut fails = Vec::new(alloc);
+    for place in 0..failing.len() {
+        fails.push(failing[place])?;
+    }
+    let mut lane = MemLane::new_lane(alloc, Vec::new(alloc), fails);
+    let mut tables = SoloTables::open_tables(alloc, 4096, 24)?;
+    let mut pages = Solo::over(&mut tables, &mut lane);
+    run_again(alloc, &mut pages, case.kinds, rows.as_slice())
+}
+
+// 32 pages in 24 frames, so pages are read while the set is. A read that fails leaves the cursor before the row.
+#[test]
+fn rows_are_read_again_where_reads_failed(rt: HostRuntime) -> Result<(), Fail> {
+    let case = case_of(&PLAIN, 1500, 40, 16);
+    let again = over_failing_reads(rt.alloc(), &[1, 4], &case);
+    assert!(rt;
+        again
+            == Ok(Some(Again {
+                same: 1500,
+                refused: 2
+            }))
+    );
     Ok(())
 }

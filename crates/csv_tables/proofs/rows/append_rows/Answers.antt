@@ -1,11 +1,47 @@
-use Rattle.std.proofs.Common.{arith, subst, ◌∙◌}
+use Rattle.std.proofs.Common.{arith, refl, subst, ◌∙◌}
 use Rattle.row_sets.specs.Writers.{written_cells, writer_holding}
-use Rattle.row_sets.proofs.Changed.{changes_then}
+use Rattle.row_sets.proofs.Changed.{changes_none, changes_then}
 use Rattle.csv_load.specs.Ahead.{told_rows}
 use Rattle.csv_load.specs.Rows.{Reading}
 use Rattle.csv_tables.specs.Adds.{AddsRow}
-use Rattle.csv_tables.proofs.Adding.{added-more}
+use Rattle.csv_tables.proofs.Adding.{added-none, added-more, added-all}
 use Rattle.csv_tables.proofs.rows.append_rows.Goals as goal
+
+pub rows-init : goal.rows-init
+rows-init g c =
+    let r = c.args.rows.now.reading in
+    record {
+      opened = c.requires.opened;
+      goes_on = c.requires.goes_on;
+      reading = refl;
+      columns = record { kinds = refl; layout = refl; page_bytes = refl };
+      writing = c.requires.writing;
+      here = c.requires.here;
+      changes = changes_none g.P.Pages.terms (writer_holding g.P.Pages.terms c.args.writer.now) (g.P.Pages.view c.args.pages.now);
+      holds = refl;
+      later = omega arith;
+      added = added-none r.limit r.columns (told_rows c.args.rows.now (g.F.Files.left c.args.files.now)) (written_cells g.P.Pages.terms c.args.writer.now);
+    }
+
+pub returns-then-not-more-clause-rows : goal.returns-then-not-more-clause-rows
+returns-then-not-more-clause-rows g c =
+    let t = g.P.Pages.terms in
+    let e = c.in-Ok.ensures in
+    let r = c.args.rows.now.reading in
+    added-all r.limit r.columns (told_rows c.args.rows.now (g.F.Files.left c.args.files.now)) (told_rows c.rows.rows (g.F.Files.left c.rows.files)) (written_cells t c.args.writer.now) (written_cells t c.rows.writer) (written_cells t c.append_row.new.writer)
+    c.rows.invariant.added (e.ended c.if-not-more.true) (e.same c.if-not-more.true)
+
+pub returns-then-not-more-clause-changes : goal.returns-then-not-more-clause-changes
+returns-then-not-more-clause-changes g c =
+    let t = g.P.Pages.terms in
+    changes_then t (writer_holding t c.args.writer.now) (writer_holding t c.rows.writer) (writer_holding t c.append_row.new.writer)
+    (g.P.Pages.view c.args.pages.now) (g.P.Pages.view c.rows.pages) (g.P.Pages.view c.append_row.new.pages) c.rows.invariant.changes c.append_row.ensures.changes
+
+pub returns-in-Err-clause-changes : goal.returns-in-Err-clause-changes
+returns-in-Err-clause-changes g c =
+    let t = g.P.Pages.terms in
+    changes_then t (writer_holding t c.args.writer.now) (writer_holding t c.rows.writer) (writer_holding t c.append_row.new.writer)
+    (g.P.Pages.view c.args.pages.now) (g.P.Pages.view c.rows.pages) (g.P.Pages.view c.append_row.new.pages) c.rows.invariant.changes c.append_row.ensures.changes
 
 pub rows-preserved : goal.rows-preserved
 rows-preserved g c =

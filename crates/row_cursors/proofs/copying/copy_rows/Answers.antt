@@ -64,6 +64,16 @@ returns-in_err-copied-clause-front g c = λ told.
     as_front (written_cells t old) (written_cells t new) (joined lists) (length (joined (take n lists)) + m) old.rows new.rows
     (page_front (written_cells t old) (written_cells t w) (written_cells t new) lists n m inside within (i.rows told) copied) (joined_long lists n m inside within) c.requires.writing.counted c.copy_page-copied.ensures.writing.counted
 
+pub returns-in_err-copied-clause-changes : goal.returns-in_err-copied-clause-changes
+returns-in_err-copied-clause-changes g c =
+    let t = g.P.Pages.terms in
+    let old = c.args.writer.now in
+    let w = c.loop-page.writer in
+    let new = c.copy_page-copied.new.writer in
+    let ids = ids_of t (under_pins t c.in_ok-pins.pins) in
+    changes_then t (writer_holding t old) (writer_holding t w) (writer_holding t new) (g.P.Pages.view c.args.pages.now) (g.P.Pages.view c.loop-page.pages) (g.P.Pages.view c.release.new.pages) c.loop-page.invariant.changes
+    (changes_pinned t ids (writer_holding t w) (writer_holding t new) (g.P.Pages.view c.loop-page.pages) (g.P.Pages.view c.pin_page.new.pages) (g.P.Pages.view c.copy_page-copied.new.pages) (g.P.Pages.view c.release.new.pages) (writer_has_no_pins t w) (writer_has_no_pins t new) c.in_ok-pins.ensures.pinned.took c.copy_page-copied.ensures.changes c.release.ensures.gave)
+
 pub returns-in_err-copied-clause-writer_here : goal.returns-in_err-copied-clause-writer_here
 returns-in_err-copied-clause-writer_here g c =
     let t = g.P.Pages.terms in

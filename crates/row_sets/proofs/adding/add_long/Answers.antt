@@ -36,14 +36,14 @@ returns-clause-rows g c =
     let w = c.args.writer.now in
     let e = c.put_with_texts.ensures in
     let puts = subst (λ (n : ℕ). PutsRow w.layout c.in-Some-Some.rows.frame.bytes.items c.put_with_texts.new.rows.frame.bytes.items (map value_read c.args.row.now) c.args.hash (Some (n, base_in c.in-Some-Some.heap)) (text_place c.in-Some-Some.heap)) c.number_of-number.ensures.is e.row in
-    long_cells g.P.Pages.terms w c.requires.writing c.in-Some-Some.rows c.in-Some-Some.heap (map value_read c.args.row.now) c.in-Some-Some.is-0 c.in-Some-Some.is-1 c.put_with_texts.new.rows c.put_with_texts.new.heap c.args.hash c.args.long c.requires.room c.requires.fits c.requires.is_long c.requires.some e.page e.heap_page puts e.accepted e.kept e.counted e.texts
+    long_cells g.P.Pages.terms w c.requires.writing c.in-Some-Some.rows c.in-Some-Some.heap (map value_read c.args.row.now) c.in-Some-Some.is-0 c.in-Some-Some.is-1 c.put_with_texts.new.rows c.put_with_texts.new.heap c.args.hash c.args.long c.max-writer.result c.requires.room c.requires.fits c.requires.is_long c.requires.some e.page e.heap_page puts e.accepted e.kept e.counted e.texts
 
 pub returns-clause-writing : goal.returns-clause-writing
 returns-clause-writing g c =
     let w = c.args.writer.now in
     let e = c.put_with_texts.ensures in
     let puts = subst (λ (n : ℕ). PutsRow w.layout c.in-Some-Some.rows.frame.bytes.items c.put_with_texts.new.rows.frame.bytes.items (map value_read c.args.row.now) c.args.hash (Some (n, base_in c.in-Some-Some.heap)) (text_place c.in-Some-Some.heap)) c.number_of-number.ensures.is e.row in
-    long_writing g.P.Pages.terms w c.requires.writing c.in-Some-Some.rows c.in-Some-Some.heap (map value_read c.args.row.now) c.in-Some-Some.is-0 c.in-Some-Some.is-1 c.put_with_texts.new.rows c.put_with_texts.new.heap c.args.hash c.args.long c.requires.room c.requires.fits c.requires.is_long c.requires.some e.page e.heap_page puts e.accepted e.kept e.counted e.texts
+    long_writing g.P.Pages.terms w c.requires.writing c.in-Some-Some.rows c.in-Some-Some.heap (map value_read c.args.row.now) c.in-Some-Some.is-0 c.in-Some-Some.is-1 c.put_with_texts.new.rows c.put_with_texts.new.heap c.args.hash c.args.long c.max-writer.result c.requires.room c.requires.fits c.requires.is_long c.requires.some e.page e.heap_page puts e.accepted e.kept e.counted e.texts
 
 pub returns-clause-place : goal.returns-clause-place
 returns-clause-place g c = record {
@@ -51,5 +51,5 @@ returns-clause-place g c = record {
   layout = refl;
   page_bytes = refl;
   pages = refl;
-  holding = open_pages g.P.Pages.terms c.args.writer.now c.in-Some-Some.rows c.in-Some-Some.heap c.put_with_texts.new.rows c.put_with_texts.new.heap (c.args.writer.now.rows + 1) (c.args.writer.now.long_bytes + c.args.long) c.in-Some-Some.is-0 c.in-Some-Some.is-1 c.put_with_texts.ensures.page.number c.put_with_texts.ensures.heap_page.number;
+  holding = open_pages g.P.Pages.terms c.args.writer.now c.in-Some-Some.rows c.in-Some-Some.heap c.put_with_texts.new.rows c.put_with_texts.new.heap (c.args.writer.now.rows + 1) (c.args.writer.now.long_bytes + c.args.long) c.max-writer.result c.in-Some-Some.is-0 c.in-Some-Some.is-1 c.put_with_texts.ensures.page.number c.put_with_texts.ensures.heap_page.number;
 }

@@ -7,7 +7,7 @@ use Rattle.page_body.specs.declared.open.OpenPage.{OpenPage}
 use Rattle.row_sets.specs.Holds.{nothing}
 use Rattle.row_sets.specs.Changes.{Changes}
 use Rattle.row_sets.specs.Given.{open_holding}
-use Rattle.row_sets.specs.Writers.{Writing, IsWriterHere}
+use Rattle.row_sets.specs.Writers.{Written, IsWriterHere}
 use Rattle.row_sets.proofs.Fresh.{is_open}
 use Rattle.row_sets.proofs.Dropped.{dropped_here}
 use Rattle.row_sets.proofs.closing.drop_empty_heap.Goals as goal
@@ -31,6 +31,6 @@ returns-then-room-len-clause-here g c =
     let same : w ≡ record w { open_heap = Some p } = λ i. record w { open_heap = e i } in
     let none : used p.frame.bytes.items ≡ 0 = let r = c.room.ensures in let q = c.if-room-len.true in search rules in
     let ch = subst (λ (o : Option OpenPage). Changes t (open_holding o) nothing a b) (c.replace-empty.ensures.value ∙ e) c.discard_open.ensures in
-    let here = dropped_here t w p (subst (Writing t) same c.requires.writing) none a b ch (subst (IsWriterHere t a) same c.requires.here) in
+    let here = dropped_here t w p (subst (Written t) same c.requires.writing) none a b ch (subst (IsWriterHere t a) same c.requires.here) in
     let gone : record w { open_heap = c.replace-empty.new.dest } ≡ record w { open_heap = None } = λ i. record w { open_heap = c.replace-empty.ensures.after i } in
     subst (IsWriterHere t b) (sym gone) here

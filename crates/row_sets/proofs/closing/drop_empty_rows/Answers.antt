@@ -7,7 +7,7 @@ use Rattle.page_body.specs.declared.open.OpenPage.{OpenPage}
 use Rattle.row_sets.specs.Holds.{nothing}
 use Rattle.row_sets.specs.Changes.{Changes}
 use Rattle.row_sets.specs.Given.{open_holding}
-use Rattle.row_sets.specs.Writers.{Writing, IsWriterHere, written_cells}
+use Rattle.row_sets.specs.Writers.{Written, IsWriterHere, written_cells}
 use Rattle.row_sets.proofs.Fresh.{is_open, rows_whole}
 use Rattle.row_sets.proofs.Dropped.{emptied_cells, emptied_writing, emptied_here}
 use Rattle.row_sets.proofs.closing.drop_empty_rows.Goals as goal
@@ -31,7 +31,7 @@ returns-then-row_count-eq0-clause-cells g c =
     let h : w.open_heap ≡ None = c.requires.sealed in
     let same : w ≡ record w { open_rows = Some p; open_heap = None } = λ i. record w { open_rows = e i; open_heap = h i } in
     let none : row_count p.frame.bytes.items ≡ 0 = search rules in
-    let writing : Writing t (record w { open_rows = Some p; open_heap = None }) = subst (Writing t) same c.requires.writing in
+    let writing : Written t (record w { open_rows = Some p; open_heap = None }) = subst (Written t) same c.requires.writing in
     let gone : record w { open_rows = c.replace-empty.new.dest } ≡ record w { open_rows = None; open_heap = None } = λ i. record w { open_rows = c.replace-empty.ensures.after i; open_heap = h i } in
     ap (written_cells t) gone ∙ emptied_cells t w p writing none ∙ ap (written_cells t) (sym same)
 
@@ -46,9 +46,9 @@ returns-then-row_count-eq0-clause-writing g c =
     let h : w.open_heap ≡ None = c.requires.sealed in
     let same : w ≡ record w { open_rows = Some p; open_heap = None } = λ i. record w { open_rows = e i; open_heap = h i } in
     let none : row_count p.frame.bytes.items ≡ 0 = search rules in
-    let writing : Writing t (record w { open_rows = Some p; open_heap = None }) = subst (Writing t) same c.requires.writing in
+    let writing : Written t (record w { open_rows = Some p; open_heap = None }) = subst (Written t) same c.requires.writing in
     let gone : record w { open_rows = c.replace-empty.new.dest } ≡ record w { open_rows = None; open_heap = None } = λ i. record w { open_rows = c.replace-empty.ensures.after i; open_heap = h i } in
-    subst (Writing t) (sym gone) (emptied_writing t w p writing none)
+    subst (Written t) (sym gone) (emptied_writing t w p writing none)
 
 pub returns-then-row_count-eq0-clause-here : goal.returns-then-row_count-eq0-clause-here
 returns-then-row_count-eq0-clause-here g c =
@@ -61,7 +61,7 @@ returns-then-row_count-eq0-clause-here g c =
     let h : w.open_heap ≡ None = c.requires.sealed in
     let same : w ≡ record w { open_rows = Some p; open_heap = None } = λ i. record w { open_rows = e i; open_heap = h i } in
     let none : row_count p.frame.bytes.items ≡ 0 = search rules in
-    let writing : Writing t (record w { open_rows = Some p; open_heap = None }) = subst (Writing t) same c.requires.writing in
+    let writing : Written t (record w { open_rows = Some p; open_heap = None }) = subst (Written t) same c.requires.writing in
     let gone : record w { open_rows = c.replace-empty.new.dest } ≡ record w { open_rows = None; open_heap = None } = λ i. record w { open_rows = c.replace-empty.ensures.after i; open_heap = h i } in
     let ch = subst (λ (o : Option OpenPage). Changes t (open_holding o) nothing a b) (c.replace-empty.ensures.value ∙ e) c.discard_open.ensures in
     subst (IsWriterHere t b) (sym gone) (emptied_here t w p writing none a b ch (subst (IsWriterHere t a) same c.requires.here))

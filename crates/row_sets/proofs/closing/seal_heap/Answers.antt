@@ -7,7 +7,7 @@ use Rattle.page_body.specs.Shows.{IsOpen}
 use Rattle.row_sets.specs.Holds.{nothing}
 use Rattle.row_sets.specs.Changes.{Changes}
 use Rattle.row_sets.specs.Closing.{with_sealed}
-use Rattle.row_sets.specs.Writers.{Writing, IsWriterHere, writer_holding, written_cells}
+use Rattle.row_sets.specs.Writers.{Written, IsWriterHere, writer_holding, written_cells}
 use Rattle.row_sets.proofs.Changed.{changes_seal, changes_same}
 use Rattle.row_sets.proofs.Stays.{writer_stays, nothing_has_no_pins}
 use Rattle.string_heap.specs.Heaps.{used}
@@ -32,7 +32,7 @@ returns-in-Ok-clause-cells g c =
     let p = c.in-Some.page in
     let e : w.open_heap ≡ Some p = sym c.replace.ensures.value ∙ c.in-Some.is in
     let same : w ≡ record w { open_heap = Some p } = λ i. record w { open_heap = e i } in
-    let writing : Writing t (record w { open_heap = Some p }) = subst (Writing t) same c.requires.writing in
+    let writing : Written t (record w { open_heap = Some p }) = subst (Written t) same c.requires.writing in
     let whole = writing.open_heap in
     let content : t.content c.in-Ok.sealed ≡ p.frame.bytes.items = c.in-Ok.ensures.content ∙ ap (λ k. flat k p.frame.bytes.items) whole.kind_is ∙ heap_flat p.frame.bytes.items in
     let some : 0 < used p.frame.bytes.items = subst (λ o. IfSome o (λ q. 0 < used q.frame.bytes.items)) e c.requires.used in
@@ -48,7 +48,7 @@ returns-in-Ok-clause-writing g c =
     let b = g.P.Pages.view c.seal.new.self in
     let e : w.open_heap ≡ Some p = sym c.replace.ensures.value ∙ c.in-Some.is in
     let same : w ≡ record w { open_heap = Some p } = λ i. record w { open_heap = e i } in
-    let writing : Writing t (record w { open_heap = Some p }) = subst (Writing t) same c.requires.writing in
+    let writing : Written t (record w { open_heap = Some p }) = subst (Written t) same c.requires.writing in
     let here : IsWriterHere t a (record w { open_heap = Some p }) = subst (IsWriterHere t a) same c.requires.here in
     let whole = writing.open_heap in
     let s = c.in-Ok.ensures in
@@ -57,7 +57,7 @@ returns-in-Ok-clause-writing g c =
     let differ = heap_differ t w p c.in-Ok.sealed a b ch s.new.live s.new.unpinned writing here in
     let is = c.keep_heap.ensures ∙ ap (λ o. with_sealed (record w { open_heap = o }) c.in-Ok.sealed) c.replace.ensures.after in
     let some : 0 < used p.frame.bytes.items = subst (λ o. IfSome o (λ q. 0 < used q.frame.bytes.items)) e c.requires.used in
-    subst (Writing t) (sym is) (sealed_writing t w p c.in-Ok.sealed writing (is_used p some) (content ∙ sym (used_bytes p some)) (s.kind ∙ whole.kind_is) differ)
+    subst (Written t) (sym is) (sealed_writing t w p c.in-Ok.sealed writing (is_used p some) (content ∙ sym (used_bytes p some)) (s.kind ∙ whole.kind_is) differ)
 
 pub returns-in-Ok-clause-here : goal.returns-in-Ok-clause-here
 returns-in-Ok-clause-here g c =
@@ -68,7 +68,7 @@ returns-in-Ok-clause-here g c =
     let b = g.P.Pages.view c.seal.new.self in
     let e : w.open_heap ≡ Some p = sym c.replace.ensures.value ∙ c.in-Some.is in
     let same : w ≡ record w { open_heap = Some p } = λ i. record w { open_heap = e i } in
-    let writing : Writing t (record w { open_heap = Some p }) = subst (Writing t) same c.requires.writing in
+    let writing : Written t (record w { open_heap = Some p }) = subst (Written t) same c.requires.writing in
     let here : IsWriterHere t a (record w { open_heap = Some p }) = subst (IsWriterHere t a) same c.requires.here in
     let s = c.in-Ok.ensures in
     let ch = changes_seal t p.frame.number c.in-Ok.sealed a b s.counted s.new s.steady s.lives s.pins in
@@ -84,7 +84,7 @@ returns-in-Ok-clause-changes g c =
     let b = g.P.Pages.view c.seal.new.self in
     let e : w.open_heap ≡ Some p = sym c.replace.ensures.value ∙ c.in-Some.is in
     let same : w ≡ record w { open_heap = Some p } = λ i. record w { open_heap = e i } in
-    let writing : Writing t (record w { open_heap = Some p }) = subst (Writing t) same c.requires.writing in
+    let writing : Written t (record w { open_heap = Some p }) = subst (Written t) same c.requires.writing in
     let here : IsWriterHere t a (record w { open_heap = Some p }) = subst (IsWriterHere t a) same c.requires.here in
     let s = c.in-Ok.ensures in
     let ch = changes_seal t p.frame.number c.in-Ok.sealed a b s.counted s.new s.steady s.lives s.pins in

@@ -10,6 +10,7 @@ use Rattle.row_sets.specs.Writers.{IsWriterHere, IsOpenRows, heaps_now, used_hea
 use Rattle.row_sets.proofs.Changed.{changes_seal, changes_same}
 use Rattle.row_sets.proofs.Stays.{writer_stays, nothing_has_no_pins}
 use Rattle.row_sets.proofs.Fresh.{is_open, rows_whole}
+use Rattle.row_sets.proofs.Fills.{fill_closed}
 use Rattle.row_sets.proofs.SealedRows.{page_rows_same, page_writing, page_differ, page_here, page_changes, here_pages, is_closed}
 use Rattle.row_sets.proofs.closing.seal_rows.Goals as goal
 
@@ -26,6 +27,38 @@ returns-in-None-clause-closed g c =
     let t = g.P.Pages.terms in
     let w = c.args.writer.now in
     is_closed t w (record w { pages = c.reserve.new.self }) c.replace.new.dest (sym c.replace.ensures.value ∙ c.in-None.is) c.replace.ensures.after c.requires.writing
+
+pub returns-in-Ok-clause-fill : goal.returns-in-Ok-clause-fill
+returns-in-Ok-clause-fill g c =
+    let t = g.P.Pages.terms in
+    let w = c.args.writer.now in
+    let p = c.in-Some.page in
+    let a = g.P.Pages.view c.args.pages.now in
+    let b = g.P.Pages.view c.seal.new.self in
+    let w2 = c.keep_rows.new.writer in
+    let is_rows : w.open_rows ≡ Some p = sym c.replace.ensures.value ∙ c.in-Some.is in
+    let kept = c.keep_rows.ensures.kept in
+    let n_is : c.from-rows.result ≡ row_count p.frame.bytes.items = search rules in
+    let k : IsWithRows c.in-Ok.sealed c.from-rows.result w w2 = record {
+      kinds = kept.kinds;
+      layout = kept.layout;
+      page_bytes = kept.page_bytes;
+      open_heap = kept.open_heap;
+      rows_are = kept.rows_are;
+      long_is = kept.long_is;
+      asked_is = kept.asked_is;
+      items = kept.items ∙ ap (λ l. l ++ record { page = record { rows = c.in-Ok.sealed; heap0 = w.heap0; heap1 = w.heap1; heap2 = w.heap2; heap3 = w.heap3 }; rows = c.from-rows.result } ∷ []) c.reserve.ensures.items;
+      heap0 = kept.heap0;
+      heap1 = kept.heap1;
+      heap2 = kept.heap2;
+      heap3 = kept.heap3;
+      sealed_heaps = kept.sealed_heaps;
+      first_heap = kept.first_heap;
+      low = kept.low;
+    } in
+    let some_row : 0 < row_count p.frame.bytes.items = subst (λ o. IfSome o (λ q. 0 < row_count q.frame.bytes.items)) is_rows c.requires.some in
+    let none = c.keep_rows.ensures.still ∙ c.replace.ensures.after in
+    fill_closed t w w2 p c.in-Ok.sealed c.from-rows.result c.requires.sealed is_rows k none c.requires.writing n_is some_row
 
 pub returns-in-Ok-clause-cells : goal.returns-in-Ok-clause-cells
 returns-in-Ok-clause-cells g c =
@@ -45,6 +78,7 @@ returns-in-Ok-clause-cells g c =
       open_heap = kept.open_heap;
       rows_are = kept.rows_are;
       long_is = kept.long_is;
+      asked_is = kept.asked_is;
       items = kept.items ∙ ap (λ l. l ++ record { page = record { rows = c.in-Ok.sealed; heap0 = w.heap0; heap1 = w.heap1; heap2 = w.heap2; heap3 = w.heap3 }; rows = c.from-rows.result } ∷ []) c.reserve.ensures.items;
       heap0 = kept.heap0;
       heap1 = kept.heap1;
@@ -81,6 +115,7 @@ returns-in-Ok-clause-writing g c =
       open_heap = kept.open_heap;
       rows_are = kept.rows_are;
       long_is = kept.long_is;
+      asked_is = kept.asked_is;
       items = kept.items ∙ ap (λ l. l ++ record { page = record { rows = c.in-Ok.sealed; heap0 = w.heap0; heap1 = w.heap1; heap2 = w.heap2; heap3 = w.heap3 }; rows = c.from-rows.result } ∷ []) c.reserve.ensures.items;
       heap0 = kept.heap0;
       heap1 = kept.heap1;
@@ -117,6 +152,7 @@ returns-in-Ok-clause-here g c =
       open_heap = kept.open_heap;
       rows_are = kept.rows_are;
       long_is = kept.long_is;
+      asked_is = kept.asked_is;
       items = kept.items ∙ ap (λ l. l ++ record { page = record { rows = c.in-Ok.sealed; heap0 = w.heap0; heap1 = w.heap1; heap2 = w.heap2; heap3 = w.heap3 }; rows = c.from-rows.result } ∷ []) c.reserve.ensures.items;
       heap0 = kept.heap0;
       heap1 = kept.heap1;
@@ -153,6 +189,7 @@ returns-in-Ok-clause-changes g c =
       open_heap = kept.open_heap;
       rows_are = kept.rows_are;
       long_is = kept.long_is;
+      asked_is = kept.asked_is;
       items = kept.items ∙ ap (λ l. l ++ record { page = record { rows = c.in-Ok.sealed; heap0 = w.heap0; heap1 = w.heap1; heap2 = w.heap2; heap3 = w.heap3 }; rows = c.from-rows.result } ∷ []) c.reserve.ensures.items;
       heap0 = kept.heap0;
       heap1 = kept.heap1;

@@ -1,14 +1,16 @@
-use Rattle.std.proofs.Common.{◌≡◌, ℕ, ◌<◌, None, length, sym, ◌∙◌, subst, ap, arith}
+use Rattle.std.proofs.Common.{◌≡◌, ℕ, ◌<◌, Some, None, length, sym, ◌∙◌, subst, ap, arith}
 use Rattle.row_image.specs.declared.image.ImageKind.TheVariants.{Rows}
 use Rattle.page_body.specs.Shows.{most_frames}
 use Rattle.row_sets.specs.Holds.{nothing, an_open}
 use Rattle.row_sets.specs.Changes.{Changes}
-use Rattle.row_sets.specs.Writers.{Writing, IsWriterHere, IsWhole, written_cells}
+use Rattle.row_sets.specs.Writers.{Written, IsWriterHere, IsWhole, written_cells}
 use Rattle.row_sets.proofs.Changed.{changes_open, changes_same}
 use Rattle.row_sets.proofs.Stays.{writer_stays, nothing_has_no_pins}
 use Rattle.row_image.specs.Image.{row_count}
 use Rattle.row_image.proofs.FitLemmas.{row_fits_page}
 use Rattle.row_sets.proofs.RowPuts.{rows_counted, layout_few}
+use Rattle.row_sets.specs.Packed.{IsPacked, rows_in, Packs}
+use Rattle.row_sets.proofs.Fills.{written, with_packed, rows_fill}
 use Rattle.row_sets.proofs.Opened.{rows_cells, rows_writing, rows_here}
 use Rattle.row_sets.proofs.opening.get_rows_room.Goals as goal
 
@@ -40,8 +42,9 @@ returns-in_ok-page-in-None-clause-writing g c =
     } in
     let none : row_count p.frame.bytes.items ≡ 0 = sym (rows_counted w.layout p.frame.bytes.items) ∙ ap length k.empty in
     let e : w ≡ record w { open_rows = None } = λ i. record w { open_rows = c.in-None.is i } in
-    let writing : Writing t (record w { open_rows = None }) = subst (Writing t) e c.requires.writing in
-    rows_writing t w p writing whole none
+    let writing : Written t (record w { open_rows = None }) = subst (Written t) e (written (Packs w) t w c.requires.writing) in
+    with_packed t (record w { open_rows = Some p }) (rows_writing t w p writing whole none)
+    (subst IsPacked (rows_fill w (Some p) (ap rows_in c.in-None.is ∙ sym none)) c.requires.writing.packs.packed)
 
 pub returns-in_ok-page-in-None-clause-room : goal.returns-in_ok-page-in-None-clause-room
 returns-in_ok-page-in-None-clause-room g c =
@@ -68,7 +71,7 @@ returns-in_ok-page-in-None-clause-cells g c =
     } in
     let none : row_count p.frame.bytes.items ≡ 0 = sym (rows_counted w.layout p.frame.bytes.items) ∙ ap length k.empty in
     let e : w ≡ record w { open_rows = None } = λ i. record w { open_rows = c.in-None.is i } in
-    let writing : Writing t (record w { open_rows = None }) = subst (Writing t) e c.requires.writing in
+    let writing : Written t (record w { open_rows = None }) = subst (Written t) e (written (Packs w) t w c.requires.writing) in
     rows_cells t w p writing whole none ∙ ap (written_cells t) (sym e)
 
 pub returns-in_ok-page-in-None-clause-here : goal.returns-in_ok-page-in-None-clause-here
@@ -89,5 +92,5 @@ returns-in_ok-page-in-None-clause-here g c =
     let ch = subst (λ (n : ℕ). Changes t nothing (an_open n) a b) (sym k.page.number) (changes_open t c.in_ok-page-in-None.page.frame.number a b s.counted s.steady s.lives s.pins) in
     let none : row_count p.frame.bytes.items ≡ 0 = sym (rows_counted w.layout p.frame.bytes.items) ∙ ap length k.empty in
     let e : w ≡ record w { open_rows = None } = λ i. record w { open_rows = c.in-None.is i } in
-    let writing : Writing t (record w { open_rows = None }) = subst (Writing t) e c.requires.writing in
+    let writing : Written t (record w { open_rows = None }) = subst (Written t) e (written (Packs w) t w c.requires.writing) in
     rows_here t w p writing whole none a b ch (subst (IsWriterHere t a) e c.requires.here)

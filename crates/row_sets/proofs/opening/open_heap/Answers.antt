@@ -1,12 +1,14 @@
-use Rattle.std.proofs.Common.{◌≡◌, ℕ, ◌<◌, None, sym, ◌∙◌, subst, arith}
+use Rattle.std.proofs.Common.{◌≡◌, ℕ, ◌<◌, Some, None, sym, ap, ◌∙◌, subst, arith}
 use Rattle.row_image.specs.declared.image.ImageKind.TheVariants.{Heap}
 use Rattle.page_body.specs.Shows.{most_frames}
 use Rattle.row_sets.specs.Holds.{nothing, an_open}
 use Rattle.row_sets.specs.Changes.{Changes}
-use Rattle.row_sets.specs.Writers.{Writing, IsWriterHere, IsWhole}
+use Rattle.row_sets.specs.Writers.{Written, IsWriterHere, IsWhole}
 use Rattle.row_sets.proofs.Changed.{changes_open, changes_same}
 use Rattle.row_sets.proofs.Stays.{writer_stays, nothing_has_no_pins}
 use Rattle.string_heap.specs.Heaps.{used}
+use Rattle.row_sets.specs.Packed.{IsPacked, used_in, Packs}
+use Rattle.row_sets.proofs.Fills.{written, with_packed, heap_fill}
 use Rattle.row_sets.proofs.Opened.{heap_writing, heap_here}
 use Rattle.row_sets.proofs.opening.open_heap.Goals as goal
 
@@ -38,8 +40,9 @@ returns-clause-writing g c =
     } in
     let none : used p.frame.bytes.items ≡ 0 = k.empty in
     let e : w ≡ record w { open_heap = None } = λ i. record w { open_heap = c.requires.none i } in
-    let writing : Writing t (record w { open_heap = None }) = subst (Writing t) e c.requires.writing in
-    heap_writing t w p writing whole none c.requires.rows c.requires.few
+    let writing : Written t (record w { open_heap = None }) = subst (Written t) e (written (Packs w) t w c.requires.writing) in
+    with_packed t (record w { open_heap = Some p }) (heap_writing t w p writing whole none c.requires.rows c.requires.few)
+    (subst IsPacked (heap_fill w (Some p) (ap used_in c.requires.none ∙ sym none)) c.requires.writing.packs.packed)
 
 pub returns-clause-here : goal.returns-clause-here
 returns-clause-here g c =
@@ -59,5 +62,5 @@ returns-clause-here g c =
     let ch = subst (λ (n : ℕ). Changes t nothing (an_open n) a b) (sym k.page.number) (changes_open t c.in_ok-page.page.frame.number a b s.counted s.steady s.lives s.pins) in
     let none : used p.frame.bytes.items ≡ 0 = k.empty in
     let e : w ≡ record w { open_heap = None } = λ i. record w { open_heap = c.requires.none i } in
-    let writing : Writing t (record w { open_heap = None }) = subst (Writing t) e c.requires.writing in
+    let writing : Written t (record w { open_heap = None }) = subst (Written t) e (written (Packs w) t w c.requires.writing) in
     heap_here t w p writing whole none c.requires.rows c.requires.few a b ch (subst (IsWriterHere t a) e c.requires.here)

@@ -3,8 +3,12 @@ use Rattle.row_sets.specs.Holds.{nothing, SameHolding}
 use Rattle.row_sets.specs.Given.{set_given}
 use Rattle.row_sets.specs.Writers.{writer_holding}
 use Rattle.row_sets.proofs.Changed.{changes_then, changes_as}
-use Rattle.row_sets.proofs.Fresh.{new_holding}
+use Rattle.row_sets.proofs.Fresh.{new_holding, new_writing}
 use Rattle.row_sets_runs.proofs.writing.build.Goals as goal
+
+pub fill-requires-clause-writing : goal.fill-requires-clause-writing
+fill-requires-clause-writing g c =
+    new_writing g.P.Pages.terms c.args.kinds.now c.page_bytes-page.result c.new_writer-writer.result c.new_writer-writer.ensures c.requires.columns.some c.requires.columns.few c.requires.columns.texts (search rules)
 
 pub returns-in-Ok-clause-changes : goal.returns-in-Ok-clause-changes
 returns-in-Ok-clause-changes g c =
