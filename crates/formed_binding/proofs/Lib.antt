@@ -1,0 +1,3 @@
+mod EachLemmas
+mod TableLemmas
+mod CopyLemmas

@@ -1,0 +1,20 @@
+//! Laws of bound statements. The functions do nothing; their contracts say the laws.
+ghost use Rattle.std.specs.Prelude.{◌≡◌, ℕ, List, Ok};
+ghost use Rattle.bound_tree.specs.declared.statement.Bound.{Bound as BoundStatement};
+ghost use Rattle.sql_grammar.specs.declared.tree.expr.Span.{Span as Place};
+ghost use Rattle.sql_grammar.specs.declared.tree.statement.Column.{Column as WrittenColumn};
+ghost use Rattle.sql_grammar.specs.declared.tree.statement.CopyOption.{CopyOption as WrittenOption};
+ghost use Rattle.sql_clauses.specs.Copies.{copy_table};
+ghost use Rattle.sql_clauses.specs.Tables.{create_table, drop_table};
+ghost use Rattle.sql_scope.specs.Scopes.{View as Scope, columns_of};
+ghost use Rattle.well_formed.specs.Statements.{IsWellFormed};
+
+/// What CREATE TABLE, DROP TABLE and COPY are bound to is well-formed over the tables that are there.
+pub fn bound_tables_are_well_formed()
+    ensures create { (limit : ℕ) (view : Scope) (name : Place) (columns : List WrittenColumn) (bound : BoundStatement)
+        → create_table view name columns ≡ Ok bound → IsWellFormed limit (columns_of view.tables) bound }
+    ensures drop { (limit : ℕ) (view : Scope) (name : Place) (bound : BoundStatement)
+        → drop_table view name ≡ Ok bound → IsWellFormed limit (columns_of view.tables) bound }
+    ensures copy { (limit : ℕ) (view : Scope) (name file : Place) (options : List WrittenOption) (bound : BoundStatement)
+        → copy_table view name file options ≡ Ok bound → IsWellFormed limit (columns_of view.tables) bound }
+{}

@@ -1,0 +1,6 @@
+//! Laws of bound statements: what binding answers is well-formed.
+#![tactic(auto)]
+
+mod laws;
+
+pub use laws::bound_tables_are_well_formed;
