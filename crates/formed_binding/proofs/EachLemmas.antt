@@ -1,9 +1,9 @@
 -- What a list that is gone through from left to right keeps.
 use Rattle.std.proofs.Common.{◌≡◌, List, [], ◌∷◌, ◌++◌, refl, subst, Ok, Err, Bool, true, false, ℕ}
-use Rattle.std.specs.Prelude.{Result, ⊤}
+use Rattle.std.specs.Prelude.{Result, Option, Some, None, ⊤}
 use Rattle.std.specs.List.{AllByRecursion}
 use Rattle.ooc_types.specs.declared.refusal.RefusalKind.{RefusalKind}
-use Rattle.sql_scope.specs.Answer.{Answer, ◌>>=◌, each, unless, refuse}
+use Rattle.sql_scope.specs.Answer.{Answer, Refusal, ◌>>=◌, each, or_refuse, unless, refuse}
 
 -- a fact of an answer, where there is one
 abbrev pub OfAnswer : {A : Type 0} → (A → Type 0) → Answer A → Type 0
@@ -32,3 +32,21 @@ asked-for P false place kind a fact = tt
 pub any-answer : {A : Type 0} (m : Answer A) → OfAnswer (λ (a : A). m ≡ Ok a) m
 any-answer (Err refusal) = tt
 any-answer (Ok a) = refl
+
+-- a fact that each value has which may be answered
+pub whenever : {A : Type 0} (P : A → Type 0) (m : Answer A) → ((a : A) → m ≡ Ok a → P a) → OfAnswer P m
+whenever P (Err refusal) fact = tt
+whenever P (Ok a) fact = fact a refl
+
+-- a refusal stays
+pub each-refused : {A X : Type 0} (Q : A → Type 0) (step : X → A → Answer A) (refusal : Refusal) (list : List X) → OfAnswer Q (each step (Err refusal) list)
+each-refused Q step refusal [] = tt
+each-refused Q step refusal (x ∷ list) = each-refused Q step refusal list
+
+pub each-on : {A X : Type 0} (P Q : A → Type 0) (step : X → A → Answer A) (m : Answer A) (list : List X) → OfAnswer P m → ((a : A) → P a → OfAnswer Q (each step (Ok a) list)) → OfAnswer Q (each step m list)
+each-on P Q step (Err refusal) list fact more = each-refused Q step refusal list
+each-on P Q step (Ok a) list fact more = more a fact
+
+pub or-refused : {A : Type 0} (P : A → Type 0) (o : Option A) (place : ℕ) (kind : RefusalKind) → ((a : A) → o ≡ Some a → P a) → OfAnswer P (or_refuse o place kind)
+or-refused P None place kind fact = tt
+or-refused P (Some a) place kind fact = fact a refl

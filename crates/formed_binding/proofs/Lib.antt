@@ -1,3 +1,4 @@
 mod EachLemmas
 mod TableLemmas
 mod CopyLemmas
+mod SetLemmas
