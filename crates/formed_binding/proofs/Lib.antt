@@ -2,3 +2,4 @@ mod EachLemmas
 mod TableLemmas
 mod CopyLemmas
 mod SetLemmas
+mod OrderLemmas
