@@ -3,3 +3,4 @@ mod TableLemmas
 mod CopyLemmas
 mod SetLemmas
 mod OrderLemmas
+mod TreeLemmas

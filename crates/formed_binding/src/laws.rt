@@ -13,6 +13,9 @@ ghost use Rattle.sql_clauses.specs.Copies.{copy_table};
 ghost use Rattle.sql_clauses.specs.Rows.{combined, select_of};
 ghost use Rattle.sql_clauses.specs.Tables.{create_table, drop_table};
 ghost use Rattle.sql_scope.specs.Scopes.{View as Scope, columns_of};
+ghost use Rattle.sql_expr.specs.declared.tree.Expr.{Expr as Tree};
+ghost use Rattle.sql_expr.specs.Kinds.{kind_of};
+ghost use Rattle.sql_clauses.specs.Grouping.{over_group};
 ghost use Rattle.well_formed.specs.Given.{Schemas};
 ghost use Rattle.well_formed.specs.Rows.{IsWellFormedSelect};
 ghost use Rattle.well_formed.specs.Statements.{IsWellFormed};
@@ -38,4 +41,9 @@ pub fn set_operations_keep_rows_well_formed()
 pub fn ordered_rows_are_well_formed()
     ensures { (limit : ℕ) (schemas : Schemas) (view : Scope) (order : List WrittenKey) (most from : Option Place) (rows : Rows) (select : Select)
         → AreUnordered limit schemas rows → select_of view order most from rows ≡ Ok select → IsWellFormedSelect limit schemas select }
+{}
+
+/// What keys cover is typed over the row of a group, where each key and each aggregate has its column there.
+pub fn covered_trees_are_typed_over_groups()
+    ensures { (keys : List Tree) (place_of : ℕ → ℕ) (e : Tree) → kind_of (over_group keys place_of e) ≡ kind_of e }
 {}
