@@ -4,3 +4,7 @@ mod CopyLemmas
 mod SetLemmas
 mod OrderLemmas
 mod TreeLemmas
+mod Facts
+mod NodeLemmas
+mod OperationLemmas
+mod GatherLemmas
