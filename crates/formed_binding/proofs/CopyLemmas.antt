@@ -14,7 +14,8 @@ use Rattle.sql_clauses.specs.Copies.{copied, copy_table, default_delimiter, deli
 use Rattle.sql_clauses.specs.Names.{text_of}
 use Rattle.sql_clauses.specs.Tables.{known_table}
 use Rattle.well_formed.specs.Statements.{IsDelimiter, IsThere, IsWellFormed}
-use Rattle.formed_binding.proofs.EachLemmas.{OfAnswer, any-answer, asked-for, each-keeps, of-answer, on-answer}
+use Rattle.formed_binding.specs.Answers.{OfAnswer}
+use Rattle.formed_binding.proofs.EachLemmas.{any-answer, asked-for, each-keeps, of-answer, on-answer}
 use Rattle.formed_binding.proofs.TableLemmas.{false-of, known}
 
 differs : (m n : ℕ) → not (m == n) ≡ true → m ≢ n

@@ -3,12 +3,8 @@ use Rattle.std.proofs.Common.{◌≡◌, List, [], ◌∷◌, ◌++◌, refl, su
 use Rattle.std.specs.Prelude.{Result, Option, Some, None, ⊤}
 use Rattle.std.specs.List.{AllByRecursion}
 use Rattle.ooc_types.specs.declared.refusal.RefusalKind.{RefusalKind}
+use Rattle.formed_binding.specs.Answers.{OfAnswer}
 use Rattle.sql_scope.specs.Answer.{Answer, Refusal, ◌>>=◌, each, or_refuse, unless, refuse}
-
--- a fact of an answer, where there is one
-abbrev pub OfAnswer : {A : Type 0} → (A → Type 0) → Answer A → Type 0
-OfAnswer P (Err refusal) = ⊤
-OfAnswer P (Ok a) = P a
 
 pub of-answer : {A : Type 0} (P : A → Type 0) (m : Answer A) (a : A) → OfAnswer P m → m ≡ Ok a → P a
 of-answer P (Err refusal) a fact is = cc

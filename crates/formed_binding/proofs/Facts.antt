@@ -21,47 +21,9 @@ use Rattle.typed_scope.proofs.PartLemmas.{answered}
 use Rattle.well_formed.specs.Aggregates.{IsAggregate}
 use Rattle.well_formed.specs.Exprs.{IsExpr}
 use Rattle.well_formed.specs.Statements.{IsSchema}
-use Rattle.formed_binding.proofs.TreeLemmas.{Covered, by_key, every-to}
-
--- the tables have columns that a table may have, and those that are seen have proper types
-pub record IsView (view : View) : Type 0 where
-  pub tables : AllByRecursion (λ table. IsSchema table.columns) view.tables
-  pub proper : AllByRecursion IsProper (kinds view)
-
--- an aggregate that stands where one may, and where the tree has one
-pub record IsCall (view : View) (flag : Bool) (call : Call) : Type 0 where
-  pub aggregate : IsAggregate view.limit (kinds view) call.aggregate
-  pub here : view.aggregates ≡ true
-  pub stands : flag ≡ true
-
-abbrev pub AreCalls : View → Bool → List Call → Type 0
-AreCalls view flag = AllByRecursion (IsCall view flag)
-
-abbrev pub one_if : Bool → ℕ
-one_if b = cond b 1 0
-
--- how many of them stand at a place
-abbrev pub calls_at : List Call → ℕ → ℕ
-calls_at [] place = 0
-calls_at (call ∷ calls) place = one_if (call.place == place) + calls_at calls place
-
-pub record IsPart (view : View) (flag : Bool) (n : ℕ → ℕ) (part : Part) : Type 0 where
-  pub typed : (calls : List Call) → IsPartOver (kinds view) calls view.limit part
-  pub calls : AreCalls view flag part.calls
-  pub counted : (place : ℕ) → calls_at part.calls place ≤ n place
-  pub covered : part.bare ≡ None → Covered view.keys (length view.columns) part.tree
-
-pub record IsChain (view : View) (flag : Bool) (n : ℕ → ℕ) (chain : Chain) : Type 0 where
-  pub typed : (calls : List Call) → IsChainOver (kinds view) calls view.limit chain
-  pub calls : AreCalls view flag chain.calls
-  pub counted : (place : ℕ) → calls_at chain.calls place ≤ n place
-  pub covered : chain.bare ≡ None → Covered view.keys (length view.columns) chain.first × AllLinks (Covered view.keys (length view.columns)) chain.links
-
-pub record AreConditions (view : View) (flag : Bool) (n : ℕ → ℕ) (conditions : Conditions) : Type 0 where
-  pub typed : (calls : List Call) → AreConditionsOver (kinds view) calls view.limit conditions
-  pub calls : AreCalls view flag conditions.calls
-  pub counted : (place : ℕ) → calls_at conditions.calls place ≤ n place
-  pub covered : conditions.bare ≡ None → AllOf (Covered view.keys (length view.columns)) conditions.list
+use Rattle.formed_binding.specs.Covered.{Covered, by_key}
+use Rattle.formed_binding.specs.Parts.{AreCalls, AreConditions, IsCall, IsChain, IsPart, IsView, calls_at, one_if}
+use Rattle.formed_binding.proofs.TreeLemmas.{every-to}
 
 -- ---- calls
 

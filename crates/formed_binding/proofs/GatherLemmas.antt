@@ -14,10 +14,13 @@ use Rattle.sql_scope.specs.declared.part.Call.{Call}
 use Rattle.sql_scope.specs.Equality.{same}
 use Rattle.sql_scope.proofs.Sameness.{equal-same, same-equal}
 use Rattle.sql_clauses.specs.Aggregates.{are_unmixed, gathered, gathered_from, has_distinct, has_other, is_distinct, place_from, same_aggregate, same_argument, same_kind, with_aggregate, with_call}
-use Rattle.sql_clauses.specs.Grouping.{group_place, is_of_call, key_from}
-use Rattle.typed_scope.specs.Typed.{IsCalled, seen_of}
+use Rattle.sql_expr.specs.Typing.{IsTyped}
+use Rattle.sql_clauses.specs.Grouping.{group_place, is_of_call, key_from, over_group}
+use Rattle.formed_binding.specs.Covered.{Covered}
+use Rattle.formed_binding.proofs.TreeLemmas.{over-typed}
+use Rattle.typed_scope.specs.Typed.{IsCalled, IsTypedOver, seen_of}
 use Rattle.well_formed.specs.Aggregates.{AreDifferent, AreSame, IsAggregate, StandsAlone, aggregate_type}
-use Rattle.formed_binding.proofs.Facts.{calls_at, one_if}
+use Rattle.formed_binding.specs.Parts.{calls_at, one_if}
 use Rattle.formed_binding.proofs.TableLemmas.{all-behind, false-of}
 
 -- ---- the same aggregate
@@ -368,3 +371,17 @@ group-call limit columns keys calls each few place kind h (inl is) = absurd (bey
 group-call limit columns keys calls each few place kind h (inr called) =
     called-known keys (length columns) (gathered calls) calls place kind
     (known-all limit columns (record { aggregates = []; calls = [] }) calls tt each (λ at. let f = few at in omega arith)) called
+
+pub group-typed : (limit : ℕ) (columns : List SqlType) (keys : List Expr) (calls : List Call) (e : Expr) → AllByRecursion (λ (call : Call). IsAggregate limit columns call.aggregate) calls → ((place : ℕ) → calls_at calls place ≤ 1)
+    → Covered keys (length columns) e → IsTypedOver (seen_of columns calls) e
+    → IsTyped (map kind_of keys ++ map (λ aggregate. aggregate.result) (gathered calls).aggregates) (over_group keys (group_place (length keys) (length columns) (gathered calls).calls) e)
+group-typed limit columns keys calls e each few covered typed =
+    let results = map (λ (aggregate : Aggregate). aggregate.result) (gathered calls).aggregates in
+    over-typed keys (group_place (length keys) (length columns) (gathered calls).calls) (seen_of columns calls) (length columns) (map kind_of keys ++ results)
+    (λ key_tree key is. group-key keys results key_tree key is) (group-call limit columns keys calls each few) covered typed
+
+pub all-different : (calls : List Call) → AreDifferent (gathered calls).aggregates
+all-different calls = different-from (record { aggregates = []; calls = [] }) calls tt
+
+pub all-formed : (limit : ℕ) (columns : List SqlType) (calls : List Call) → AllByRecursion (λ (call : Call). IsAggregate limit columns call.aggregate) calls → AllByRecursion (IsAggregate limit columns) (gathered calls).aggregates
+all-formed limit columns calls each = all-from (IsAggregate limit columns) (record { aggregates = []; calls = [] }) calls tt each

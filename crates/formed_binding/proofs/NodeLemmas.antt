@@ -48,9 +48,12 @@ use Rattle.typed_scope.proofs.LeafLemmas.{column-typed, literal-typed, star-type
 use Rattle.typed_scope.proofs.ListLemmas.{like-typed, one_of-typed}
 use Rattle.typed_scope.proofs.PartLemmas.{answered, asked, minus-typed, negation-typed, comparison-typed, null_test-typed, between-typed}
 use Rattle.well_formed.specs.Aggregates as formed
-use Rattle.formed_binding.proofs.EachLemmas.{OfAnswer, any-answer, asked-for, of-answer, on-answer, whenever}
-use Rattle.formed_binding.proofs.Facts.{AreCalls, IsCall, IsPart, IsView, calls-both, calls-more, calls_at, counted-both, left-stands, made, no-calls, no-first, one_if, part-expr, right-stands}
-use Rattle.formed_binding.proofs.TreeLemmas.{Covered, covered-node}
+use Rattle.formed_binding.specs.Answers.{OfAnswer}
+use Rattle.formed_binding.proofs.EachLemmas.{any-answer, asked-for, of-answer, on-answer, whenever}
+use Rattle.formed_binding.specs.Parts.{AreCalls, IsCall, IsPart, IsView, calls_at, one_if}
+use Rattle.formed_binding.proofs.Facts.{calls-both, calls-more, counted-both, left-stands, made, no-calls, no-first, part-expr, right-stands}
+use Rattle.formed_binding.specs.Covered.{Covered}
+use Rattle.formed_binding.proofs.TreeLemmas.{covered-node}
 
 -- ---- literals
 

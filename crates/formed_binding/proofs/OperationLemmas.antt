@@ -48,11 +48,14 @@ use Rattle.typed_scope.proofs.LeafLemmas.{column-typed, literal-typed, star-type
 use Rattle.typed_scope.proofs.ListLemmas.{like-typed, one_of-typed}
 use Rattle.typed_scope.proofs.PartLemmas.{answered, asked, minus-typed, negation-typed, comparison-typed, null_test-typed, between-typed}
 use Rattle.well_formed.specs.Aggregates as formed
-use Rattle.formed_binding.proofs.EachLemmas.{OfAnswer, any-answer, asked-for, of-answer, on-answer, whenever}
-use Rattle.formed_binding.proofs.Facts.{AreCalls, AreConditions, IsCall, IsChain, IsPart, IsView, calls-both, calls-more, calls_at, counted-both, left-stands, made, no-calls, no-first, one_if, part-expr, right-stands}
+use Rattle.formed_binding.specs.Answers.{OfAnswer}
+use Rattle.formed_binding.proofs.EachLemmas.{any-answer, asked-for, of-answer, on-answer, whenever}
+use Rattle.formed_binding.specs.Parts.{AreListed, IsListed, AreCalls, AreConditions, IsCall, IsChain, IsPart, IsView, calls_at, one_if}
+use Rattle.formed_binding.proofs.Facts.{calls-both, calls-more, counted-both, left-stands, made, no-calls, no-first, part-expr, right-stands}
 use Rattle.formed_binding.proofs.NodeLemmas.{IsConstant, is-constant, covered-constant, literal-part}
 use Rattle.formed_binding.proofs.TableLemmas.{all-behind}
-use Rattle.formed_binding.proofs.TreeLemmas.{Covered, covered-node}
+use Rattle.formed_binding.specs.Covered.{Covered}
+use Rattle.formed_binding.proofs.TreeLemmas.{covered-node}
 
 -- ---- over one operand
 
@@ -96,15 +99,6 @@ like-part view flag n place negated pattern of h = whenever (IsPart view flag n)
       (λ none. subst (Covered view.keys (length view.columns)) is_tree (covered-node view.keys (length view.columns) (tree.Like of.tree b.0 negated) shape (ap out-Expr (sym (rolls-Like of.tree b.0 negated)) ∙ out-roll-Expr shape) tt (h.covered none))) a.1.1)
 
 -- ---- over constants
-
--- a constant of an IN list
-pub record IsListed (view : View) (e : Expr) : Type 0 where
-  pub typed : (calls : List Call) → IsTypedOver (seen_of (kinds view) calls) e
-  pub short : HasShortTexts view.limit e
-  pub covered : Covered view.keys (length view.columns) e
-
-abbrev AreListed : View → List Expr → Type 0
-AreListed view list = AllByRecursion (IsListed view) list
 
 plain-part : (view : View) (written : Literal) (t : Expr) → rules.literal view written ≡ Ok t → IsPart view false (λ place. 0) (parts.part_of view t None [])
 plain-part view written t is =

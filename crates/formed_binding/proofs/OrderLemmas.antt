@@ -36,7 +36,8 @@ use Rattle.well_formed.specs.Given.{Schemas}
 use Rattle.well_formed.specs.Rows.{AnyConjunct, AnyInput, IsCut, IsNumber, IsRowsNode, IsSelectNode, IsWellFormedSelect}
 use Rattle.well_formed.proofs.Parts.{whole_made}
 use Rattle.formed_binding.specs.Named.{AreNamed, AreUnordered}
-use Rattle.formed_binding.proofs.EachLemmas.{OfAnswer, any-answer, asked-for, each-keeps, of-answer, on-answer, or-refused, whenever}
+use Rattle.formed_binding.specs.Answers.{OfAnswer}
+use Rattle.formed_binding.proofs.EachLemmas.{any-answer, asked-for, each-keeps, of-answer, on-answer, or-refused, whenever}
 use Rattle.formed_binding.proofs.TableLemmas.{all-behind}
 
 -- ---- numbers that a token writes

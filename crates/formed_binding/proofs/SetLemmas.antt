@@ -23,7 +23,8 @@ use Rattle.well_formed.specs.Given.{Schemas, kinds_in_rows, kinds_of_columns, ki
 use Rattle.well_formed.specs.Rows.{AnyConjunct, AnyInput, AreCommon, AreWellFormedRows, IsCommon, IsRowsNode, IsSelectNode}
 use Rattle.well_formed.proofs.Parts.{rows_made}
 use Rattle.formed_binding.specs.Named.{AreNamed}
-use Rattle.formed_binding.proofs.EachLemmas.{OfAnswer, any-answer, asked-for, each-on, of-answer, on-answer, or-refused}
+use Rattle.formed_binding.specs.Answers.{OfAnswer}
+use Rattle.formed_binding.proofs.EachLemmas.{any-answer, asked-for, each-on, of-answer, on-answer, or-refused}
 use Rattle.formed_binding.proofs.TableLemmas.{map-behind}
 
 equal-numbers : (m n : ℕ) → (m == n) ≡ true → m ≡ n

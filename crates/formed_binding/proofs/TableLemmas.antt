@@ -24,7 +24,8 @@ use Rattle.sql_clauses.specs.Types.{decimal_type, declared_type, is_decimal, is_
 use Rattle.well_formed.specs.Given.{Schemas}
 use Rattle.well_formed.specs.Names.{AreApart, in_small_letters}
 use Rattle.well_formed.specs.Statements.{IsSchema, IsThere, IsWellFormed}
-use Rattle.formed_binding.proofs.EachLemmas.{OfAnswer, any-answer, asked-for, each-keeps, of-answer, on-answer}
+use Rattle.formed_binding.specs.Answers.{OfAnswer}
+use Rattle.formed_binding.proofs.EachLemmas.{any-answer, asked-for, each-keeps, of-answer, on-answer}
 
 -- ---- lists, one item longer
 

@@ -1,1 +1,4 @@
+pub mod Answers
 pub mod Named
+pub mod Covered
+pub mod Parts

@@ -1,8 +1,10 @@
-use Rattle.formed_binding.proofs.TreeLemmas.{over-kind, over-typed}
-use Rattle.formed_binding.proofs.NodeLemmas.{value-part}
-use Rattle.formed_binding.proofs.OperationLemmas.{every-part}
-use Rattle.formed_binding.proofs.GatherLemmas.{group-call}
+use Rattle.std.specs.Prelude.{length}
+use Rattle.sql_clauses.specs.Aggregates.{gathered}
+use Rattle.sql_clauses.specs.Grouping.{group_place}
+use Rattle.typed_scope.specs.Typed.{seen_of}
+use Rattle.formed_binding.proofs.GatherLemmas.{group-typed}
+use Rattle.formed_binding.proofs.TreeLemmas.{over-kind, over-short}
 use Rattle.formed_binding.proofs.laws.covered_trees_are_typed_over_groups.Goals as goal
 
 pub returns : goal.returns
-returns c = over-kind
+returns c = record { kind = over-kind; texts = over-short; typed = group-typed }
