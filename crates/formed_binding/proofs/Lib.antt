@@ -8,3 +8,4 @@ mod Facts
 mod NodeLemmas
 mod OperationLemmas
 mod GatherLemmas
+mod SourceLemmas

@@ -9,7 +9,7 @@ use Rattle.ooc_types.specs.declared.refusal.RefusalKind.TheVariants.{BadPosition
 use Rattle.bound_tree.specs.declared.select.SortKey.{SortKey}
 use Rattle.bound_tree.specs.declared.select.Cut.{Cut}
 use Rattle.bound_tree.specs.declared.select.BoundSelect.{BoundSelect}
-use Rattle.bound_tree.specs.declared.select.BoundRows.TheViews.{roll-BoundSelect}
+use Rattle.bound_tree.specs.declared.select.BoundRows.TheViews.{out-roll-BoundSelect, roll-BoundSelect}
 use Rattle.sql_grammar.specs.declared.tree.expr.Span.{Span}
 use Rattle.sql_grammar.specs.declared.tree.select.Key.{Key}
 use Rattle.sql_grammar.specs.declared.tree.select.KeyColumn.{KeyColumn}
@@ -32,10 +32,17 @@ use Rattle.sql_clauses.specs.Rows.{cut_rows, finished_rows, output_columns, plai
 use Rattle.sql_clauses.specs.Tables.{is_called}
 use Rattle.well_formed.specs.Cores.{IsCoreNode}
 use Rattle.well_formed.specs.From.{IsSourceNode}
-use Rattle.well_formed.specs.Given.{Schemas}
+use Rattle.well_formed.specs.Given.{Schemas, kinds_of_columns}
 use Rattle.well_formed.specs.Rows.{AnyConjunct, AnyInput, IsCut, IsNumber, IsRowsNode, IsSelectNode, IsWellFormedSelect}
 use Rattle.well_formed.proofs.Parts.{whole_made}
-use Rattle.formed_binding.specs.Named.{AreNamed, AreUnordered}
+use Rattle.sql_expr.specs.Operations.{IsProper}
+use Rattle.bound_tree.specs.declared.select.BoundCore.{BoundCore}
+use Rattle.bound_tree.specs.declared.select.BoundRows.{BoundRows}
+use Rattle.bound_tree.specs.declared.select.BoundSource.{BoundSource}
+use Rattle.bound_tree.specs.declared.select.Conjunct.{Conjunct}
+use Rattle.bound_tree.specs.declared.select.SourceRows.{SourceRows}
+use Rattle.bound_tree.specs.declared.select.BoundRows.TheOpen.{BoundSelect-F}
+use Rattle.formed_binding.specs.Named.{AreNamed, AreUnordered, IsSelected}
 use Rattle.formed_binding.specs.Answers.{OfAnswer}
 use Rattle.formed_binding.proofs.EachLemmas.{any-answer, asked-for, each-keeps, of-answer, on-answer, or-refused, whenever}
 use Rattle.formed_binding.proofs.TableLemmas.{all-behind}
@@ -143,18 +150,20 @@ both-answers : {A : Type 0} (P Q : A → Type 0) (m : Answer A) → OfAnswer P m
 both-answers P Q (Err refusal) p q = tt
 both-answers P Q (Ok a) p q = (p, q)
 
-pub select-formed : (limit : ℕ) (schemas : Schemas) (view : View) (order : List Key) (most from : Option Span) (rows : Unordered) (select : BoundSelect) → AreUnordered limit schemas rows
-    → select_of view order most from rows ≡ Ok select → IsWellFormedSelect limit schemas select
-select-formed limit schemas view order most from rows select are is =
-    let Formed = IsWellFormedSelect limit schemas in
+pub select-formed : (limit : ℕ) (schemas : Schemas) (view : View) (order : List Key) (most from : Option Span) (rows : Unordered) → AreUnordered limit schemas rows
+    → OfAnswer (IsSelected limit schemas) (select_of view order most from rows)
+select-formed limit schemas view order most from rows are =
+    let Formed = IsSelected limit schemas in
     let columns = output_columns rows in
     let Given : NamedRows → Type 0 = λ named. AreNamed limit schemas named × (named.columns ≡ columns) in
-    of-answer Formed (select_of view order most from rows) select
-    (on-answer (λ (c : Option Cut). IfSome c (IsCut (length columns))) Formed (cut_rows view rows order most from) (λ (window : Option Cut). finished_rows rows >>= select_with window)
+    on-answer (λ (c : Option Cut). IfSome c (IsCut (length columns))) Formed (cut_rows view rows order most from) (λ (window : Option Cut). finished_rows rows >>= select_with window)
       (whole-cut view (source_columns rows) columns (plain_outputs rows) are.plain order most from)
       (λ window formed. on-answer Given Formed (finished_rows rows) (select_with window)
         (both-answers (AreNamed limit schemas) (λ (named : NamedRows). named.columns ≡ columns) (finished_rows rows) (whenever (AreNamed limit schemas) (finished_rows rows) are.finished) (finished-columns rows))
-        (λ named given. whole_made IsRowsNode AnyConjunct AnyInput (IsCoreNode limit) IsSelectNode (IsSourceNode schemas)
-          (record { rows = named.rows; columns = named.columns; cut = window }) given.0.rows
-          (record { columns = given.0.kinds; cut = subst (λ (list : List Column). IfSome window (IsCut (length list))) (sym given.1) formed }))))
-    is
+        (λ named given.
+          let node : BoundSelect-F BoundRows Conjunct SourceRows BoundCore BoundSelect BoundSource = record { rows = named.rows; columns = named.columns; cut = window } in
+          record {
+            formed = whole_made IsRowsNode AnyConjunct AnyInput (IsCoreNode limit) IsSelectNode (IsSourceNode schemas) node given.0.rows
+                (record { columns = given.0.kinds; cut = subst (λ (list : List Column). IfSome window (IsCut (length list))) (sym given.1) formed });
+            proper = subst (λ (s : BoundSelect-F BoundRows Conjunct SourceRows BoundCore BoundSelect BoundSource). AllByRecursion IsProper (kinds_of_columns s.columns)) (sym (out-roll-BoundSelect node)) given.0.proper;
+          }))

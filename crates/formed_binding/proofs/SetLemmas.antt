@@ -6,7 +6,8 @@ use Rattle.ooc_types.specs.declared.schema.Column.{Column}
 use Rattle.ooc_types.specs.declared.schema.SqlType.{SqlType}
 use Rattle.ooc_types.specs.declared.schema.SqlType.TheVariants.{Boolean, Integer, BigInt, HugeInt, Decimal, Date, Varchar}
 use Rattle.ooc_types.specs.declared.refusal.RefusalKind.TheVariants.{ColumnCount, TypeMismatch}
-use Rattle.sql_expr.specs.Operations.{wider}
+use Rattle.std.specs.List.{AllByRecursion}
+use Rattle.sql_expr.specs.Operations.{IsProper, wider}
 use Rattle.bound_tree.specs.declared.kinds.SetKind.{SetKind}
 use Rattle.bound_tree.specs.declared.select.BoundRows.{BoundRows}
 use Rattle.bound_tree.specs.declared.select.BoundRows.TheVariants.{Set as SetRows, rolls-Set}
@@ -92,6 +93,27 @@ paired place (l ∷ left) (r ∷ right) before same =
       (λ kind is. (kind, (is, map-behind (λ (c : Column). c.kind) before (record { name = l.name; kind = kind; nullable = true })))))
     (λ after next. keep place l r left right before after next.0 next.1.0 next.1.1 (each (pair_behind place) (Ok after) (zip left right)) (paired place left right after (omega arith)))
 
+wider-proper : (k l kind : SqlType) → wider k l ≡ Some kind → IsProper kind
+wider-proper Integer Integer kind is = let e : Integer ≡ kind = cc in subst IsProper e tt
+wider-proper Integer BigInt kind is = let e : BigInt ≡ kind = cc in subst IsProper e tt
+wider-proper Integer HugeInt kind is = let e : HugeInt ≡ kind = cc in subst IsProper e tt
+wider-proper BigInt Integer kind is = let e : BigInt ≡ kind = cc in subst IsProper e tt
+wider-proper BigInt BigInt kind is = let e : BigInt ≡ kind = cc in subst IsProper e tt
+wider-proper BigInt HugeInt kind is = let e : HugeInt ≡ kind = cc in subst IsProper e tt
+wider-proper HugeInt Integer kind is = let e : HugeInt ≡ kind = cc in subst IsProper e tt
+wider-proper HugeInt BigInt kind is = let e : HugeInt ≡ kind = cc in subst IsProper e tt
+wider-proper HugeInt HugeInt kind is = let e : HugeInt ≡ kind = cc in subst IsProper e tt
+wider-proper _ _ kind is = cc
+
+one-proper : (k l kind : SqlType) → IsCommon k l kind → IsProper k → IsProper kind
+one-proper k l kind (inl same) proper = subst IsProper (sym same.1) proper
+one-proper k l kind (inr wide) proper = wider-proper k l kind wide
+
+common-proper : (ks ls kinds : List SqlType) → AllByRecursion IsProper ks → AreCommon ks ls kinds → AllByRecursion IsProper kinds
+common-proper [] [] [] proper are = tt
+common-proper (k ∷ ks) (l ∷ ls) (kind ∷ kinds) proper are = (one-proper k l kind are.0 proper.0, common-proper ks ls kinds proper.1 are.1)
+common-proper _ _ _ proper are = absurd are
+
 pub combined-named : (limit : ℕ) (schemas : Schemas) (kind : WrittenKind) (all : Bool) (place : ℕ) (left right named : NamedRows) → AreNamed limit schemas left → AreNamed limit schemas right
     → combined kind all place left right ≡ Ok named → AreNamed limit schemas named
 combined-named limit schemas kind all place left right named l r is =
@@ -112,6 +134,7 @@ combined-named limit schemas kind all place left right named l r is =
         record {
           rows = subst (AreWellFormedRows limit schemas) (rolls-Set (set_kind kind) all left.rows right.rows kinds)
               (rows_made IsRowsNode AnyConjunct AnyInput (IsCoreNode limit) IsSelectNode (IsSourceNode schemas) node (l.rows, r.rows) common_kinds);
+          proper = common-proper (kinds_of_columns left.columns) (kinds_of_columns right.columns) (kinds_of_columns columns) l.proper are;
           kinds = sym (ap kinds_in_rows (ap out-BoundRows (sym (rolls-Set (set_kind kind) all left.rows right.rows kinds)) ∙ out-roll-BoundRows node));
         }))
     is

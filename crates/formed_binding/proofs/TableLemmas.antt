@@ -43,7 +43,7 @@ pub false-of : (b : Bool) → not b ≡ true → b ≡ false
 false-of true e = cc
 false-of false e = refl
 
-other-texts : (a b : List ℕ) → bytes_eq a b ≡ false → a ≢ b
+pub other-texts : (a b : List ℕ) → bytes_eq a b ≡ false → a ≢ b
 other-texts a b e is = let t : bytes_eq a b ≡ true = (bytes_eq-Decides a b).1 is in cc
 
 pub neither : (a b : Bool) → (a || b) ≡ false → (a ≡ false) × (b ≡ false)

@@ -6,7 +6,6 @@ ghost use Rattle.sql_expr.specs.declared.tree.Expr.{Expr as Tree};
 ghost use Rattle.sql_expr.specs.Kinds.{kind_of};
 ghost use Rattle.sql_expr.specs.Typing.{IsTyped};
 ghost use Rattle.sql_expr.specs.Values.{HasShortTexts};
-ghost use Rattle.bound_tree.specs.declared.select.BoundSelect.{BoundSelect as Select};
 ghost use Rattle.bound_tree.specs.declared.statement.Bound.{Bound as BoundStatement};
 ghost use Rattle.sql_grammar.specs.declared.tree.expr.ChainSign.{ChainSign as WrittenSign};
 ghost use Rattle.sql_grammar.specs.declared.tree.expr.ColumnName.{ColumnName as WrittenName};
@@ -38,11 +37,10 @@ ghost use Rattle.sql_clauses.specs.Tables.{create_table, drop_table};
 ghost use Rattle.typed_scope.specs.Typed.{IsTypedOver, seen_of};
 ghost use Rattle.well_formed.specs.Aggregates.{AreDifferent, IsAggregate, StandsAlone};
 ghost use Rattle.well_formed.specs.Given.{Schemas};
-ghost use Rattle.well_formed.specs.Rows.{IsWellFormedSelect};
 ghost use Rattle.well_formed.specs.Statements.{IsWellFormed};
 ghost use Rattle.formed_binding.specs.Answers.{OfAnswer};
 ghost use Rattle.formed_binding.specs.Covered.{Covered};
-ghost use Rattle.formed_binding.specs.Named.{AreNamed, AreUnordered};
+ghost use Rattle.formed_binding.specs.Named.{AreNamed, AreUnordered, IsSelected};
 ghost use Rattle.formed_binding.specs.Parts.{AreConditions, AreListed, IsChain, IsPart, IsView, calls_at, one_if};
 
 /// What CREATE TABLE, DROP TABLE and COPY are bound to is well-formed over the tables that are there.
@@ -63,8 +61,8 @@ pub fn set_operations_keep_rows_well_formed()
 
 /// A SELECT over well-formed rows is well-formed: its keys are output columns, its numbers are those of tokens.
 pub fn ordered_rows_are_well_formed()
-    ensures { (limit : ℕ) (schemas : Schemas) (view : Scope) (order : List WrittenKey) (most from : Option Place) (rows : Rows) (select : Select)
-        → AreUnordered limit schemas rows → select_of view order most from rows ≡ Ok select → IsWellFormedSelect limit schemas select }
+    ensures { (limit : ℕ) (schemas : Schemas) (view : Scope) (order : List WrittenKey) (most from : Option Place) (rows : Rows)
+        → AreUnordered limit schemas rows → OfAnswer (IsSelected limit schemas) (select_of view order most from rows) }
 {}
 
 /// What keys cover is typed over the row of a group, which has the keys and then the different aggregates, where no two calls
