@@ -9,3 +9,4 @@ mod NodeLemmas
 mod OperationLemmas
 mod GatherLemmas
 mod SourceLemmas
+mod JoinLemmas

@@ -40,17 +40,9 @@ use Rattle.well_formed.specs.Statements.{IsSchema}
 use Rattle.well_formed.proofs.Parts.{from_made, input_made}
 use Rattle.formed_binding.specs.Answers.{OfAnswer}
 use Rattle.formed_binding.specs.Named.{IsSelected}
+use Rattle.formed_binding.specs.Sources.{AreAll, AreSources}
 use Rattle.formed_binding.proofs.EachLemmas.{asked-for, on-answer, or-refused}
 use Rattle.formed_binding.proofs.TableLemmas.{all-behind, apart-behind, false-of, map-behind, neither, other-texts}
-
-pub record AreSources (view : View) (sources : Sources) (by_joins : List JoinKind) : Type 0 where
-  pub names : AreApart (names_of sources.list)
-  pub few : sources.ninth ≡ None → length sources.list ≤ 8
-  pub kinds : map (λ (c : ScopeColumn). c.kind) sources.columns ≡ kinds_of_sources sources.list
-  pub proper : AllByRecursion IsProper (map (λ (c : ScopeColumn). c.kind) sources.columns)
-  pub well : AllByRecursion (IsWellFormedSource view.limit (columns_of view.tables)) sources.list
-  pub joins : map (λ (s : BoundSource). (out-BoundSource s).join) sources.list ≡ by_joins
-  pub plain : AllByRecursion (λ (s : BoundSource). (out-BoundSource s).on ≡ []) sources.list
 
 -- ---- lists
 
@@ -163,17 +155,11 @@ module _ (view : View) where
       (subst (HasKindsIn schemas (types_of (out-BoundSelect query).columns)) (sym (ap out-SourceRows (sym (rolls-Query query)) ∙ out-roll-SourceRows (SourceRows-F.Query query))) refl)
       selected.proper are
 
-  -- once all are there
-  pub record AreAll (sources : Sources) (joins : List JoinKind) : Type 0 where
-    pub are : AreSources view sources joins
-    pub few : length sources.list ≤ 8
-    pub narrow : length sources.columns ≤ 64
-
-  pub all-there : (place : ℕ) (sources : Sources) (joins : List JoinKind) → AreSources view sources joins → OfAnswer (λ t. AreAll t joins) (all_sources place sources)
+  pub all-there : (place : ℕ) (sources : Sources) (joins : List JoinKind) → AreSources view sources joins → OfAnswer (λ t. AreAll view t joins) (all_sources place sources)
   all-there place sources joins are =
-      on-answer (λ t. (t ≡ sources) × (length sources.list ≤ 8)) (λ t. AreAll t joins) (few_sources sources sources.ninth) (few_columns place) (by sources.ninth refl)
-      (λ t h. subst (λ u. OfAnswer (λ t. AreAll t joins) (few_columns place u)) (sym h.0)
-        (asked-for (λ t. AreAll t joins) (nat_le (length sources.columns) most_columns) place TooManyColumns sources (λ e. record { are = are; few = h.1; narrow = leb-true (length sources.columns) 64 e })))
+      on-answer (λ t. (t ≡ sources) × (length sources.list ≤ 8)) (λ t. AreAll view t joins) (few_sources sources sources.ninth) (few_columns place) (by sources.ninth refl)
+      (λ t h. subst (λ u. OfAnswer (λ t. AreAll view t joins) (few_columns place u)) (sym h.0)
+        (asked-for (λ t. AreAll view t joins) (nat_le (length sources.columns) most_columns) place TooManyColumns sources (λ e. record { are = are; few = h.1; narrow = leb-true (length sources.columns) 64 e })))
     where
       by : (o : Option ℕ) → sources.ninth ≡ o → OfAnswer (λ t. (t ≡ sources) × (length sources.list ≤ 8)) (few_sources sources o)
       by None e = (refl, are.few e)

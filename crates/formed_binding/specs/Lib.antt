@@ -2,3 +2,4 @@ pub mod Answers
 pub mod Named
 pub mod Covered
 pub mod Parts
+pub mod Sources

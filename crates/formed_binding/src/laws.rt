@@ -1,11 +1,14 @@
 //! Laws of bound statements. The functions do nothing; their contracts say the laws.
-ghost use Rattle.std.specs.Prelude.{◌≡◌, ℕ, ◌+◌, ◌≤◌, Bool, true, false, ◌==◌, List, ◌++◌, map, length, Option, Some, Ok, is_some};
+ghost use Rattle.std.specs.Prelude.{◌≡◌, ℕ, ◌+◌, ◌≤◌, Bool, true, false, ◌==◌, List, [], ◌∷◌, ◌++◌, map, length, take, Option, Some, Ok, is_some};
 ghost use Rattle.std.specs.List.{AllByRecursion};
 ghost use Rattle.ooc_types.specs.declared.schema.SqlType.{SqlType as Kind};
+ghost use Rattle.ooc_types.specs.declared.schema.SqlType.TheVariants.{Boolean};
 ghost use Rattle.sql_expr.specs.declared.tree.Expr.{Expr as Tree};
 ghost use Rattle.sql_expr.specs.Kinds.{kind_of};
 ghost use Rattle.sql_expr.specs.Typing.{IsTyped};
 ghost use Rattle.sql_expr.specs.Values.{HasShortTexts};
+ghost use Rattle.bound_tree.specs.declared.kinds.JoinKind.{JoinKind as Joining};
+ghost use Rattle.bound_tree.specs.declared.select.BoundSelect.{BoundSelect as Select};
 ghost use Rattle.bound_tree.specs.declared.statement.Bound.{Bound as BoundStatement};
 ghost use Rattle.sql_grammar.specs.declared.tree.expr.ChainSign.{ChainSign as WrittenSign};
 ghost use Rattle.sql_grammar.specs.declared.tree.expr.ColumnName.{ColumnName as WrittenName};
@@ -25,23 +28,31 @@ ghost use Rattle.sql_scope.specs.declared.part.Part.{Part as BoundPart};
 ghost use Rattle.sql_scope.specs.Answer.{Answer};
 ghost use Rattle.sql_scope.specs.Calls.{distinct_call, star_call, value_call};
 ghost use Rattle.sql_scope.specs.Parts.{begun, between, column, comparison, either, ended, every, joined, like, linked, literal, minus, negation, null_test, one_of, started};
-ghost use Rattle.sql_scope.specs.Scopes.{View as Scope, columns_of, without_aggregates};
+ghost use Rattle.sql_scope.specs.Scopes.{View as Scope, columns_of, kinds, without_aggregates};
 ghost use Rattle.sql_scope.specs.Trees.{constants_from};
 ghost use Rattle.sql_clauses.specs.declared.cores.NamedRows.{NamedRows as Named};
 ghost use Rattle.sql_clauses.specs.declared.rows.Unordered.{Unordered as Rows};
+ghost use Rattle.sql_clauses.specs.declared.joins.Joined.{Joined as JoinedSources};
+ghost use Rattle.sql_clauses.specs.declared.sources.Sources.{Sources};
 ghost use Rattle.sql_clauses.specs.Aggregates.{are_unmixed, gathered};
+ghost use Rattle.sql_clauses.specs.Conditions.{conjuncts};
 ghost use Rattle.sql_clauses.specs.Copies.{copy_table};
 ghost use Rattle.sql_clauses.specs.Grouping.{group_place, over_group};
+ghost use Rattle.sql_clauses.specs.Joins.{join_on, join_plainly, on_width};
 ghost use Rattle.sql_clauses.specs.Rows.{combined, select_of};
+ghost use Rattle.sql_clauses.specs.Sources.{all_sources, query_source, table_source};
 ghost use Rattle.sql_clauses.specs.Tables.{create_table, drop_table};
 ghost use Rattle.typed_scope.specs.Typed.{IsTypedOver, seen_of};
 ghost use Rattle.well_formed.specs.Aggregates.{AreDifferent, IsAggregate, StandsAlone};
+ghost use Rattle.well_formed.specs.Exprs.{IsCondition, IsExpr};
+ghost use Rattle.well_formed.specs.From.{MayHave};
 ghost use Rattle.well_formed.specs.Given.{Schemas};
-ghost use Rattle.well_formed.specs.Statements.{IsWellFormed};
+ghost use Rattle.well_formed.specs.Statements.{IsSchema, IsWellFormed};
 ghost use Rattle.formed_binding.specs.Answers.{OfAnswer};
 ghost use Rattle.formed_binding.specs.Covered.{Covered};
 ghost use Rattle.formed_binding.specs.Named.{AreNamed, AreUnordered, IsSelected};
 ghost use Rattle.formed_binding.specs.Parts.{AreConditions, AreListed, IsChain, IsPart, IsView, calls_at, one_if};
+ghost use Rattle.formed_binding.specs.Sources.{AreAll, AreJoinedAs, AreSources};
 
 /// What CREATE TABLE, DROP TABLE and COPY are bound to is well-formed over the tables that are there.
 pub fn bound_tables_are_well_formed()
@@ -126,4 +137,22 @@ pub fn chains_and_conditions_give_parts()
         → (f ≡ true → flag ≡ true) → (g ≡ true → flag ≡ true) → ((place : ℕ) → m place + k place ≤ n place) → OfAnswer (AreConditions view flag n) (joined place conditions right) }
     ensures every { (view : Scope) (flag : Bool) (n : ℕ → ℕ) (conditions : BoundConditions) → AreConditions view flag n conditions → OfAnswer (IsPart view flag n) (every view conditions) }
     ensures either { (view : Scope) (flag : Bool) (n : ℕ → ℕ) (conditions : BoundConditions) → AreConditions view flag n conditions → OfAnswer (IsPart view flag n) (either view conditions) }
+{}
+
+/// A table or a subquery behind the sources before it.
+pub fn sources_are_well_formed()
+    ensures table { (view : Scope) (join : Joining) (name : Place) (alias : Option Place) (sources : Sources) (joins : List Joining) → AllByRecursion (λ table. IsSchema table.columns) view.tables
+        → AreSources view sources joins → OfAnswer (λ all. AreSources view all (joins ++ join ∷ [])) (table_source view join name alias sources) }
+    ensures query { (view : Scope) (join : Joining) (place : ℕ) (alias : Place) (sources : Sources) (joins : List Joining) (query : Select) → IsSelected view.limit (columns_of view.tables) query
+        → AreSources view sources joins → OfAnswer (λ all. AreSources view all (joins ++ join ∷ [])) (query_source view join place alias sources query) }
+    ensures few { (view : Scope) (place : ℕ) (sources : Sources) (joins : List Joining) → AreSources view sources joins → OfAnswer (λ all. AreAll view all joins) (all_sources place sources) }
+{}
+
+/// The next source with its ON: conditions over the columns up to it, and none for the first source and behind CROSS JOIN.
+pub fn joins_are_well_formed()
+    ensures plainly { (view : Scope) (names : List (List ℕ)) (all : List Joining) (kind : Joining) (left : List Joining) (joined : JoinedSources) → MayHave kind []
+        → AreJoinedAs view names all (kind ∷ left) joined → OfAnswer (AreJoinedAs view names all left) (join_plainly joined) }
+    ensures on { (view : Scope) (names : List (List ℕ)) (all : List Joining) (kind : Joining) (left : List Joining) (place : ℕ) (joined : JoinedSources) (part : BoundPart) → ((on : List Tree) → MayHave kind on)
+        → AreJoinedAs view names all (kind ∷ left) joined → IsExpr view.limit (take (on_width joined) (kinds view)) part.tree → OfAnswer (AreJoinedAs view names all left) (join_on place joined part) }
+    ensures conjuncts { (limit : ℕ) (columns : List Kind) (e : Tree) → IsExpr limit columns e → kind_of e ≡ Boolean → AllByRecursion (IsCondition limit columns) (conjuncts e) }
 {}

@@ -1,4 +1,3 @@
-use Rattle.formed_binding.proofs.SourceLemmas.{all-there}
 use Rattle.formed_binding.proofs.OrderLemmas.{select-formed}
 use Rattle.formed_binding.proofs.laws.ordered_rows_are_well_formed.Goals as goal
 
