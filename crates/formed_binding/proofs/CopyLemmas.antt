@@ -1,21 +1,21 @@
 -- COPY and its options.
-use Rattle.std.proofs.Common.{◌≡◌, ◌≢◌, ℕ, ◌<◌, Bool, true, false, nat_lt, ◌==◌, List, [], ◌∷◌, refl, Option, Some, None, Ok, Err, cond, arith}
-use Rattle.std.specs.Prelude.{not, is_none, ◌&&◌, ⊤, Result, unwrap_or}
+use Rattle.std.proofs.Common.{◌≡◌, ◌≢◌, ℕ, Bool, true, false, nat_lt, ◌==◌, List, [], ◌∷◌, refl, Some, None, Ok, cond, arith}
+use Rattle.std.specs.Prelude.{not, is_none, ◌&&◌, unwrap_or}
 use Rattle.std.proofs.lemmas.Bool.{and_parts, ltb-true}
 use Rattle.ooc_types.specs.declared.refusal.RefusalKind.TheVariants.{BadOption}
 use Rattle.bound_tree.specs.declared.statement.Bound.{Bound}
 use Rattle.sql_grammar.specs.declared.tree.expr.Span.{Span}
 use Rattle.sql_grammar.specs.declared.tree.statement.CopyOption.{CopyOption}
 use Rattle.sql_grammar.specs.declared.tree.statement.CopyOption.TheVariants.{Header, Delimiter, Null}
-use Rattle.sql_scope.specs.Answer.{Answer, ◌>>=◌, each, or_refuse, unless}
+use Rattle.sql_scope.specs.Answer.{◌>>=◌, each, or_refuse, unless}
 use Rattle.sql_scope.specs.Scopes.{View, columns_of}
 use Rattle.sql_clauses.specs.declared.copy.CopyOptions.{CopyOptions}
-use Rattle.sql_clauses.specs.Copies.{copied, copy_table, default_delimiter, delimiter_behind, delimiter_of, is_delimiter, no_options, option_behind, with_delimiter}
+use Rattle.sql_clauses.specs.Copies.{copied, copy_table, default_delimiter, delimiter_of, is_delimiter, no_options, option_behind, with_delimiter}
 use Rattle.sql_clauses.specs.Names.{text_of}
 use Rattle.sql_clauses.specs.Tables.{known_table}
 use Rattle.well_formed.specs.Statements.{IsDelimiter, IsThere, IsWellFormed}
 use Rattle.formed_binding.specs.Answers.{OfAnswer}
-use Rattle.formed_binding.proofs.EachLemmas.{any-answer, asked-for, each-keeps, of-answer, on-answer}
+use Rattle.formed_binding.proofs.EachLemmas.{asked-for, each-keeps, of-answer, on-answer}
 use Rattle.formed_binding.proofs.TableLemmas.{false-of, known}
 
 differs : (m n : ℕ) → not (m == n) ≡ true → m ≢ n
@@ -57,8 +57,8 @@ copied-formed limit view name file options bound is =
     let Formed = IsWellFormed limit (columns_of view.tables) in
     of-answer Formed (copy_table view name file options) bound
     (on-answer (IsThere (columns_of view.tables)) Formed (known_table view name)
-      (λ (table : List ℕ). each (option_behind view) (Ok no_options) options >>= (λ (all : CopyOptions). Ok (copied table (text_of view file) all))) (known view name)
-      (λ table there. on-answer Separates Formed (each (option_behind view) (Ok no_options) options) (λ (all : CopyOptions). Ok (copied table (text_of view file) all))
-        (each-keeps Separates (option_behind view) (Ok no_options) options comma (λ option before h. option-keeps view option before h))
-        (λ all separates. record { there = there; separates = separates })))
+    (λ (table : List ℕ). each (option_behind view) (Ok no_options) options >>= (λ (all : CopyOptions). Ok (copied table (text_of view file) all))) (known view name)
+    (λ table there. on-answer Separates Formed (each (option_behind view) (Ok no_options) options) (λ (all : CopyOptions). Ok (copied table (text_of view file) all))
+    (each-keeps Separates (option_behind view) (Ok no_options) options comma (λ option before h. option-keeps view option before h))
+    (λ all separates. record { there = there; separates = separates })))
     is

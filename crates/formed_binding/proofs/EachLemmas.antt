@@ -1,10 +1,9 @@
 -- What a list that is gone through from left to right keeps.
-use Rattle.std.proofs.Common.{◌≡◌, List, [], ◌∷◌, ◌++◌, refl, subst, Ok, Err, Bool, true, false, ℕ}
-use Rattle.std.specs.Prelude.{Result, Option, Some, None, ⊤}
-use Rattle.std.specs.List.{AllByRecursion}
+use Rattle.std.proofs.Common.{◌≡◌, List, [], ◌∷◌, refl, subst, Ok, Err, Bool, true, false, ℕ}
+use Rattle.std.specs.Prelude.{Option, Some, None}
 use Rattle.ooc_types.specs.declared.refusal.RefusalKind.{RefusalKind}
 use Rattle.formed_binding.specs.Answers.{OfAnswer}
-use Rattle.sql_scope.specs.Answer.{Answer, Refusal, ◌>>=◌, each, or_refuse, unless, refuse}
+use Rattle.sql_scope.specs.Answer.{Answer, Refusal, ◌>>=◌, each, or_refuse, unless}
 
 pub of-answer : {A : Type 0} (P : A → Type 0) (m : Answer A) (a : A) → OfAnswer P m → m ≡ Ok a → P a
 of-answer P (Err refusal) a fact is = cc

@@ -1,28 +1,22 @@
 -- What is known of the parts of a statement that are bound.
-use Rattle.std.proofs.Common.{◌≡◌, ℕ, ◌+◌, ◌≤◌, Bool, true, false, ◌==◌, List, [], ◌∷◌, ◌++◌, map, length, refl, sym, ap, ◌∙◌, subst, Option, Some, None, cond, arith, Ok, inl, inr}
-use Rattle.std.specs.Prelude.{◌||◌, ◌⊎◌, ⊤}
+use Rattle.std.proofs.Common.{◌≡◌, ℕ, ◌+◌, ◌≤◌, Bool, true, false, List, [], ◌∷◌, ◌++◌, length, refl, sym, subst, Option, Some, None, cond, arith, Ok, inl, inr}
+use Rattle.std.specs.Prelude.{◌||◌, ◌⊎◌}
 use Rattle.std.specs.List.{AllByRecursion}
 use Rattle.ooc_types.specs.declared.schema.SqlType.{SqlType}
 use Rattle.sql_expr.specs.declared.tree.Expr.{Expr}
 use Rattle.sql_expr.specs.declared.tree.Link.{Link}
 use Rattle.sql_expr.specs.declared.tree.Expr.TheOpen.{Expr-F}
-use Rattle.sql_expr.specs.Operations.{IsProper}
 use Rattle.sql_expr.specs.Typing.{IsTyped, IsTypedNode}
-use Rattle.sql_expr.proofs.Opened.{AllLinks, AllOf}
-use Rattle.sql_scope.specs.declared.chain.Chain.{Chain}
-use Rattle.sql_scope.specs.declared.chain.Conditions.{Conditions}
 use Rattle.sql_scope.specs.declared.part.Call.{Call}
 use Rattle.sql_scope.specs.declared.part.Part.{Part}
 use Rattle.sql_scope.specs.Answer.{Answer}
 use Rattle.sql_scope.specs.Parts.{first_of, is_key, part_of, uncovered}
 use Rattle.sql_scope.specs.Scopes.{View, kinds}
-use Rattle.typed_scope.specs.Typed.{AreConditionsOver, IsCalled, IsChainOver, IsPartOver, IsTypedNodeOver, IsTypedOver, seen_of}
+use Rattle.typed_scope.specs.Typed.{IsPartOver, IsTypedNodeOver, IsTypedOver, seen_of}
 use Rattle.typed_scope.proofs.PartLemmas.{answered}
-use Rattle.well_formed.specs.Aggregates.{IsAggregate}
 use Rattle.well_formed.specs.Exprs.{IsExpr}
-use Rattle.well_formed.specs.Statements.{IsSchema}
 use Rattle.formed_binding.specs.Covered.{Covered, by_key}
-use Rattle.formed_binding.specs.Parts.{AreCalls, AreConditions, IsCall, IsChain, IsPart, IsView, calls_at, one_if}
+use Rattle.formed_binding.specs.Parts.{AreCalls, IsPart, calls_at}
 use Rattle.formed_binding.proofs.TreeLemmas.{every-to}
 
 -- ---- calls

@@ -1,6 +1,6 @@
 -- The different aggregates of a core: each once, as written, and each call's column is that of its aggregate.
-use Rattle.std.proofs.Common.{◌≡◌, ℕ, zero, suc, ◌+◌, ◌-◌, ◌<◌, ◌≤◌, Bool, true, false, ◌==◌, nat_le, List, [], ◌∷◌, ◌++◌, map, length, refl, sym, ap, ◌∙◌, subst, Option, Some, None, cond, arith, length-append, inl, inr}
-use Rattle.std.specs.Prelude.{◌||◌, ◌&&◌, ◌⊎◌, not, ⊤, slice_get}
+use Rattle.std.proofs.Common.{◌≡◌, ℕ, zero, suc, ◌+◌, ◌-◌, ◌<◌, ◌≤◌, Bool, true, false, ◌==◌, nat_le, List, [], ◌∷◌, ◌++◌, map, length, refl, sym, ap, ◌∙◌, subst, Option, Some, None, cond, arith, inl, inr}
+use Rattle.std.specs.Prelude.{◌||◌, ◌&&◌, ◌⊎◌, not, slice_get}
 use Rattle.std.specs.Option.{option_map}
 use Rattle.std.specs.List.{AllByRecursion}
 use Rattle.std.proofs.lemmas.Bool.{and_parts, leb-true}
@@ -144,7 +144,7 @@ stays first all (call ∷ calls) is other =
     let p = neither (not (same_aggregate first call.aggregate)) (has_other first calls) other in
     let s = not-false (same_aggregate first call.aggregate) p.0 in
     let place : place_from 0 all.aggregates call.aggregate ≡ 0 =
-        ap (λ (list : List Aggregate). place_from 0 list call.aggregate) is ∙ ap (λ (b : Bool). cond b 0 1) s in
+    ap (λ (list : List Aggregate). place_from 0 list call.aggregate) is ∙ ap (λ (b : Bool). cond b 0 1) s in
     stays first (with_call all call) calls
     (ap (λ (n : ℕ). with_aggregate all.aggregates n call.aggregate) place ∙ ap (λ (list : List Aggregate). with_aggregate list 0 call.aggregate) is) p.1
 
@@ -294,7 +294,7 @@ module _ (limit : ℕ) (columns : List SqlType) where
       let none : columns_at all.calls (λ c. c.place) call.place ≡ 0 = omega arith in (
         known-from (with_call all call) calls call.place call.aggregate.result (known-here all call have each.0 none),
         known-all (with_call all call) calls (all-next (IsAggregate limit columns) all.aggregates (place_from 0 all.aggregates call.aggregate) call.aggregate have each.0) each.1
-        (λ place. let f = few place in let m = columns-more all.calls (λ c. c.place) (record { place = call.place; at = place_from 0 all.aggregates call.aggregate }) place in omega arith),
+            (λ place. let f = few place in let m = columns-more all.calls (λ c. c.place) (record { place = call.place; at = place_from 0 all.aggregates call.aggregate }) place in omega arith),
       )
 
 -- where a call is found, its column stands behind the keys
@@ -356,7 +356,7 @@ called-known keys width all [] place kind known called = absurd called
 called-known keys width all (call ∷ calls) place kind known (inl here) =
     subst (λ (k : SqlType). slice_get (map kind_of keys ++ map (λ (aggregate : Aggregate). aggregate.result) all.aggregates) (group_place (length keys) width all.calls place) ≡ Some k) (sym here.1)
     (subst (λ (p : ℕ). slice_get (map kind_of keys ++ map (λ (aggregate : Aggregate). aggregate.result) all.aggregates) (group_place (length keys) width all.calls p) ≡ Some call.aggregate.result) (sym here.0)
-      (group-known keys width all call.place call.aggregate.result known.0))
+    (group-known keys width all call.place call.aggregate.result known.0))
 called-known keys width all (call ∷ calls) place kind known (inr later) = called-known keys width all calls place kind known.1 later
 
 beyond : (columns : List SqlType) (place : ℕ) (kind : SqlType) → length columns ≤ place → slice_get columns place ≡ Some kind → ⊥

@@ -1,6 +1,6 @@
 -- ON, and the sources joined.
-use Rattle.std.proofs.Common.{◌≡◌, ℕ, zero, suc, ◌+◌, ◌-◌, ◌≤◌, Bool, true, false, List, [], ◌∷◌, ◌++◌, map, length, refl, sym, ap, ◌∙◌, subst, Option, Some, None, Ok, Err, arith, length-append}
-use Rattle.std.specs.Prelude.{⊤, take}
+use Rattle.std.proofs.Common.{◌≡◌, ℕ, ◌+◌, ◌-◌, List, [], ◌∷◌, ◌++◌, map, length, refl, sym, ap, ◌∙◌, subst, arith, length-append}
+use Rattle.std.specs.Prelude.{take}
 use Rattle.std.specs.List.{AllByRecursion}
 use Rattle.ooc_types.specs.declared.schema.SqlType.{SqlType}
 use Rattle.ooc_types.specs.declared.schema.SqlType.TheVariants.{Boolean}
@@ -23,9 +23,8 @@ use Rattle.bound_tree.specs.declared.select.SourceRows.{SourceRows}
 use Rattle.bound_tree.specs.declared.select.BoundRows.TheOpen.{BoundSource-F}
 use Rattle.bound_tree.specs.declared.select.BoundRows.TheViews.{out-BoundSource, out-roll-BoundSource}
 use Rattle.sql_scope.specs.declared.part.Part.{Part}
-use Rattle.sql_scope.specs.Answer.{Answer, ◌>>=◌}
 use Rattle.sql_scope.specs.Operations.{is_boolean}
-use Rattle.sql_scope.specs.Scopes.{View, columns_of, front, kinds}
+use Rattle.sql_scope.specs.Scopes.{View, columns_of, kinds}
 use Rattle.sql_clauses.specs.declared.joins.Joined.{Joined}
 use Rattle.sql_clauses.specs.Conditions.{condition, conjuncts, conjuncts_of, on_condition, operands_in}
 use Rattle.sql_clauses.specs.Joins.{join_next, join_on, join_plainly, join_with, on_width, with_on}
@@ -33,14 +32,12 @@ use Rattle.typed_scope.proofs.PartLemmas.{truth-kind}
 use Rattle.well_formed.specs.Cores.{IsCoreNode}
 use Rattle.well_formed.specs.Exprs.{IsCondition, IsExpr}
 use Rattle.well_formed.specs.From.{AreJoined, IsOn, IsSourceNode, MayHave, names_of}
-use Rattle.well_formed.specs.Given.{Schemas, kinds_of_source, kinds_of_sources}
+use Rattle.well_formed.specs.Given.{kinds_of_source, kinds_of_sources}
 use Rattle.well_formed.specs.Rows.{AnyConjunct, AnyInput, IsRowsNode, IsSelectNode, IsWellFormedSource}
 use Rattle.well_formed.proofs.Parts.{from_held, from_here, from_made}
 use Rattle.formed_binding.specs.Answers.{OfAnswer}
-use Rattle.formed_binding.specs.Parts.{IsPart}
 use Rattle.formed_binding.specs.Sources.{AreJoinedAs, AreJoinedTo}
 use Rattle.formed_binding.proofs.EachLemmas.{asked-for, on-answer}
-use Rattle.formed_binding.proofs.Facts.{no-calls, part-expr}
 use Rattle.formed_binding.proofs.SourceLemmas.{append-assoc, append-nothing, sources-behind}
 use Rattle.formed_binding.proofs.TableLemmas.{all-behind, map-behind}
 use Rattle.formed_binding.proofs.TreeLemmas.{open-node}
@@ -133,8 +130,8 @@ module _ (view : View) (names : List (List ℕ)) (all : List JoinKind) where
         more = omega arith;
         well = all-behind (IsWellFormedSource view.limit (columns_of view.tables)) joined put are.well
             (from_made IsRowsNode AnyConjunct AnyInput (IsCoreNode view.limit) IsSelectNode (IsSourceNode (columns_of view.tables)) node
-              (from_held IsRowsNode AnyConjunct AnyInput (IsCoreNode view.limit) IsSelectNode (IsSourceNode (columns_of view.tables)) source (out-BoundSource source) are.well_rest.0 refl)
-              (from_here IsRowsNode AnyConjunct AnyInput (IsCoreNode view.limit) IsSelectNode (IsSourceNode (columns_of view.tables)) source (out-BoundSource source) are.well_rest.0 refl));
+            (from_held IsRowsNode AnyConjunct AnyInput (IsCoreNode view.limit) IsSelectNode (IsSourceNode (columns_of view.tables)) source (out-BoundSource source) are.well_rest.0 refl)
+            (from_here IsRowsNode AnyConjunct AnyInput (IsCoreNode view.limit) IsSelectNode (IsSourceNode (columns_of view.tables)) source (out-BoundSource source) are.well_rest.0 refl));
         well_rest = are.well_rest.1;
         called = ap (λ (n : List (List ℕ)). n ++ names_of rest) (map-behind (λ (s : BoundSource). (out-BoundSource s).name) joined put ∙ ap (λ (n : List ℕ). names_of joined ++ n ∷ []) named)
             ∙ one-behind (names_of joined) (out-BoundSource source).name (names_of rest) ∙ are.called;

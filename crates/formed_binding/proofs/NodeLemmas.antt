@@ -1,12 +1,11 @@
 -- What an operation makes of its operands, and a literal, a column and an aggregate.
-use Rattle.std.proofs.Common.{◌≡◌, ℕ, ◌+◌, ◌≤◌, Bool, true, false, ◌==◌, nat_le, List, [], ◌∷◌, ◌++◌, map, length, refl, sym, ap, ◌∙◌, subst, Option, Some, None, cond, arith, Ok, Err}
-use Rattle.std.specs.Prelude.{ℤ, pos, negsuc, ◌||◌, ◌&&◌, ⊤, Result, is_some}
-use Rattle.std.specs.List.{AllByRecursion}
+use Rattle.std.proofs.Common.{◌≡◌, ℕ, ◌+◌, ◌≤◌, Bool, true, false, ◌==◌, nat_le, List, [], ◌∷◌, length, refl, sym, ap, ◌∙◌, subst, Option, Some, None, cond, arith, Ok, Err}
+use Rattle.std.specs.Prelude.{ℤ, pos, negsuc, is_some}
 use Rattle.ooc_types.specs.declared.schema.SqlType.{SqlType}
 use Rattle.ooc_types.specs.declared.schema.SqlType.TheVariants.{Boolean, Integer, BigInt, HugeInt, Decimal, Date, Varchar}
 use Rattle.ooc_types.specs.declared.value.Value.{Value}
 use Rattle.ooc_types.specs.declared.value.Value.TheVariants as value
-use Rattle.ooc_types.specs.declared.refusal.RefusalKind.TheVariants.{AggregateHere, SumTooWide, TypeMismatch}
+use Rattle.ooc_types.specs.declared.refusal.RefusalKind.TheVariants.{AggregateHere, SumTooWide}
 use Rattle.sql_expr.specs.declared.tree.Expr.{Expr}
 use Rattle.sql_expr.specs.declared.tree.Link.{Link}
 use Rattle.sql_expr.specs.declared.tree.Expr.TheOpen.{Expr-F}
@@ -14,44 +13,32 @@ use Rattle.sql_expr.specs.declared.tree.Expr.TheVariants as tree
 use Rattle.sql_expr.specs.declared.tree.Expr.TheVariants.{rolls-Constant, rolls-Column, rolls-Not, rolls-Minus, rolls-Every, rolls-Either, rolls-Chain, rolls-Compare, rolls-IsNull, rolls-Like, rolls-OneOf, rolls-Between}
 use Rattle.sql_expr.specs.declared.tree.Expr.TheViews.{out-Expr, out-roll-Expr}
 use Rattle.sql_expr.specs.Kinds.{kind_of}
-use Rattle.sql_expr.specs.Values.{HasShortTexts}
-use Rattle.sql_expr.proofs.Opened.{AllLinks, AllOf}
 use Rattle.bound_tree.specs.declared.kinds.AggregateKind.{AggregateKind}
 use Rattle.bound_tree.specs.declared.kinds.AggregateKind.TheVariants as aggregates
-use Rattle.sql_grammar.specs.declared.tree.expr.Span.{Span}
 use Rattle.sql_grammar.specs.declared.tree.expr.ColumnName.{ColumnName}
 use Rattle.sql_grammar.specs.declared.tree.expr.Literal.{Literal}
 use Rattle.sql_grammar.specs.declared.tree.expr.Literal.TheVariants as literals
-use Rattle.sql_grammar.specs.declared.tree.expr.Constant.{Constant}
-use Rattle.sql_grammar.specs.declared.tree.expr.CompareSign.{CompareSign as WrittenCompare}
-use Rattle.sql_grammar.specs.declared.tree.expr.ChainSign.{ChainSign as WrittenSign}
 use Rattle.sql_lex.specs.declared.values.DecimalValue.{DecimalValue}
 use Rattle.sql_lex.specs.Values.{decimal_value, integer_value, unquoted}
 use Rattle.sql_scope.specs.declared.call.Function.{Function}
 use Rattle.sql_scope.specs.declared.call.Function.TheVariants.{Count, Sum, Least, Greatest}
-use Rattle.sql_scope.specs.declared.chain.Chain.{Chain}
-use Rattle.sql_scope.specs.declared.chain.Conditions.{Conditions}
 use Rattle.sql_scope.specs.declared.part.Call.{Call}
 use Rattle.sql_scope.specs.declared.part.Part.{Part}
 use Rattle.sql_scope.specs.Answer.{Answer, ◌>>=◌, unless}
 use Rattle.sql_scope.specs.Calls.{aggregate, count_type, distinct_call, kind_of_function, most_summed, star_call, sum_type, value_call, value_type}
 use Rattle.sql_scope.specs.Dates.{day_of}
 use Rattle.sql_scope.specs.Literals as rules
-use Rattle.sql_scope.specs.Operations.{are_comparable, is_boolean, is_number, is_text, linked_type}
 use Rattle.sql_scope.specs.Parts as parts
 use Rattle.sql_scope.specs.Scopes.{View, first_token, kinds, named_column, without_aggregates}
 use Rattle.sql_scope.specs.Texts.{text_at}
-use Rattle.sql_scope.specs.Trees as trees
-use Rattle.typed_scope.specs.Typed.{IsPartOver, IsTypedOver, seen_of}
-use Rattle.typed_scope.proofs.ChainLemmas.{begun-typed, linked-typed, ended-typed, started-typed, joined-typed, every-typed, either-typed}
+use Rattle.typed_scope.specs.Typed.{IsPartOver}
 use Rattle.typed_scope.proofs.LeafLemmas.{column-typed, literal-typed, star-typed, value-typed, distinct-typed, first-answer}
-use Rattle.typed_scope.proofs.ListLemmas.{like-typed, one_of-typed}
-use Rattle.typed_scope.proofs.PartLemmas.{answered, asked, minus-typed, negation-typed, comparison-typed, null_test-typed, between-typed}
+use Rattle.typed_scope.proofs.PartLemmas.{answered}
 use Rattle.well_formed.specs.Aggregates as formed
 use Rattle.formed_binding.specs.Answers.{OfAnswer}
-use Rattle.formed_binding.proofs.EachLemmas.{any-answer, asked-for, of-answer, on-answer, whenever}
-use Rattle.formed_binding.specs.Parts.{AreCalls, IsCall, IsPart, IsView, calls_at, one_if}
-use Rattle.formed_binding.proofs.Facts.{calls-both, calls-more, counted-both, left-stands, made, no-calls, no-first, part-expr, right-stands}
+use Rattle.formed_binding.proofs.EachLemmas.{of-answer, whenever}
+use Rattle.formed_binding.specs.Parts.{AreCalls, IsPart, IsView, calls_at, one_if}
+use Rattle.formed_binding.proofs.Facts.{made, no-calls, part-expr}
 use Rattle.formed_binding.specs.Covered.{Covered}
 use Rattle.formed_binding.proofs.TreeLemmas.{covered-node}
 
@@ -92,13 +79,13 @@ covered-constant keys width e is =
 pub literal-part : (view : View) (written : Literal) → OfAnswer (IsPart view false (λ place. 0)) (parts.literal view written)
 literal-part view written = whenever (IsPart view false (λ place. 0)) (parts.literal view written)
     (λ part is. let a = first-answer (rules.literal view written) (parts.constant_part view) part is in
-      made view false (λ place. 0) a.0 None [] part (λ calls. literal-typed (kinds view) calls view written part is) tt (λ place. omega arith)
-      (λ none. covered-constant view.keys (length view.columns) a.0 (of-answer IsConstant (rules.literal view written) a.0 (is-constant view written) a.1.0)) a.1.1)
+    made view false (λ place. 0) a.0 None [] part (λ calls. literal-typed (kinds view) calls view written part is) tt (λ place. omega arith)
+    (λ none. covered-constant view.keys (length view.columns) a.0 (of-answer IsConstant (rules.literal view written) a.0 (is-constant view written) a.1.0)) a.1.1)
 
 pub column-part : (view : View) (written : ColumnName) → IsView view → OfAnswer (IsPart view false (λ place. 0)) (parts.column view written)
 column-part view written sees = whenever (IsPart view false (λ place. 0)) (parts.column view written)
     (λ part is. let a = first-answer (named_column view written.source written.name) (parts.column_part view written) part is in
-      made view false (λ place. 0) a.0 (Some (first_token written.source written.name)) [] part (λ calls. column-typed calls view.limit view written part sees.proper is) tt (λ place. omega arith) (λ none. cc) a.1.1)
+    made view false (λ place. 0) a.0 (Some (first_token written.source written.name)) [] part (λ calls. column-typed calls view.limit view written part sees.proper is) tt (λ place. omega arith) (λ none. cc) a.1.1)
 
 -- ---- aggregates
 
@@ -116,8 +103,8 @@ call-part view flag n place kind of result part typed is_aggregate counted stand
         let within : length view.columns ≤ length view.columns + place = omega arith in
         let covered = covered-node view.keys (length view.columns) column shape (ap out-Expr (sym (rolls-Column (length view.columns + place) result)) ∙ out-roll-Expr shape) within tt in
         let rest = answered (λ (p : Part). AreCalls view flag p.calls × ((at : ℕ) → calls_at p.calls at ≤ n at) × (p.bare ≡ None → Covered view.keys (length view.columns) p.tree))
-            (record { tree = column; bare = None; calls = record { place = place; aggregate = record { kind = kind; of = of; result = result } } ∷ [] }) part is
-            ((record { aggregate = is_aggregate; here = e; stands = stands }, tt), (λ at. let h = counted at in omega arith), (λ none. covered)) in
+        (record { tree = column; bare = None; calls = record { place = place; aggregate = record { kind = kind; of = of; result = result } } ∷ [] }) part is
+        ((record { aggregate = is_aggregate; here = e; stands = stands }, tt), (λ at. let h = counted at in omega arith), (λ none. covered)) in
         record { typed = typed; calls = rest.0; counted = rest.1; covered = rest.2 }
 
 count-bigint : (place : ℕ) (function : Function) (kind : SqlType) → count_type place function ≡ Ok kind → BigInt ≡ kind
@@ -131,8 +118,8 @@ pub star-part : (view : View) (flag : Bool) (n : ℕ → ℕ) (place : ℕ) (fun
 star-part view flag n place None counted stands = tt
 star-part view flag n place (Some function) counted stands = whenever (IsPart view flag n) (star_call view place (Some function))
     (λ part is. let a = first-answer (count_type place function) (aggregate view place aggregates.CountRows None) part is in
-      call-part view flag n place aggregates.CountRows None a.0 part (λ calls. star-typed calls view.limit view place (Some function) part is)
-      (record { argument = tt; result = ap Some (count-bigint place function a.0 a.1.0) }) counted (stands refl) a.1.1)
+    call-part view flag n place aggregates.CountRows None a.0 part (λ calls. star-typed calls view.limit view place (Some function) part is)
+    (record { argument = tt; result = ap Some (count-bigint place function a.0 a.1.0) }) counted (stands refl) a.1.1)
 
 sums : (place : ℕ) (k kind : SqlType) → sum_type place k ≡ Ok kind → formed.sum_type k ≡ Some kind
 sums place Boolean kind is = cc
@@ -161,12 +148,12 @@ pub value-part : (view : View) (flag other : Bool) (n m : ℕ → ℕ) (place : 
     → ((at : ℕ) → one_if (place == at) ≤ n at) → flag ≡ true → OfAnswer (IsPart view flag n) (value_call view place (Some function) of)
 value-part view flag other n m place function of is_part counted stands = whenever (IsPart view flag n) (value_call view place (Some function) of)
     (λ part is. let a = first-answer (value_type place function (kind_of of.tree)) (aggregate view place (kind_of_function function) (Some of.tree)) part is in
-      call-part view flag n place (kind_of_function function) (Some of.tree) a.0 part (λ calls. value-typed calls view.limit view place (Some function) of part (is_part.typed calls) is)
-      (record { argument = part-expr (without_aggregates view) other m of is_part (argument-alone view other m of is_part); result = value-result place function (kind_of of.tree) a.0 a.1.0 }) counted stands a.1.1)
+    call-part view flag n place (kind_of_function function) (Some of.tree) a.0 part (λ calls. value-typed calls view.limit view place (Some function) of part (is_part.typed calls) is)
+    (record { argument = part-expr (without_aggregates view) other m of is_part (argument-alone view other m of is_part); result = value-result place function (kind_of of.tree) a.0 a.1.0 }) counted stands a.1.1)
 
 pub distinct-part : (view : View) (flag other : Bool) (n m : ℕ → ℕ) (place : ℕ) (function : Function) (of : Part) → IsPart (without_aggregates view) other m of
     → ((at : ℕ) → one_if (place == at) ≤ n at) → flag ≡ true → OfAnswer (IsPart view flag n) (distinct_call view place (Some function) of)
 distinct-part view flag other n m place function of is_part counted stands = whenever (IsPart view flag n) (distinct_call view place (Some function) of)
     (λ part is. let a = first-answer (count_type place function) (aggregate view place aggregates.CountDistinct (Some of.tree)) part is in
-      call-part view flag n place aggregates.CountDistinct (Some of.tree) a.0 part (λ calls. distinct-typed calls view.limit view place (Some function) of part is)
-      (record { argument = part-expr (without_aggregates view) other m of is_part (argument-alone view other m of is_part); result = ap Some (count-bigint place function a.0 a.1.0) }) counted stands a.1.1)
+    call-part view flag n place aggregates.CountDistinct (Some of.tree) a.0 part (λ calls. distinct-typed calls view.limit view place (Some function) of part is)
+    (record { argument = part-expr (without_aggregates view) other m of is_part (argument-alone view other m of is_part); result = ap Some (count-bigint place function a.0 a.1.0) }) counted stands a.1.1)

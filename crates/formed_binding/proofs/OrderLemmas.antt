@@ -1,6 +1,6 @@
 -- ORDER BY, LIMIT and OFFSET, and the SELECT whole.
-use Rattle.std.proofs.Common.{◌≡◌, ℕ, zero, suc, ◌+◌, ◌-◌, ◌<◌, ◌≤◌, ◌^◌, Bool, true, false, nat_le, nat_lt, List, [], ◌∷◌, ◌++◌, map, length, refl, sym, ap, ◌∙◌, subst, Option, Some, None, Ok, Err, cond, arith}
-use Rattle.std.specs.Prelude.{ℤ, pos, negsuc, ◌&&◌, ⊤, Result, IfSome}
+use Rattle.std.proofs.Common.{◌≡◌, ℕ, ◌+◌, ◌-◌, ◌<◌, ◌≤◌, ◌^◌, Bool, true, false, nat_le, List, [], ◌∷◌, length, refl, sym, subst, Option, Some, None, Ok, Err, cond, arith}
+use Rattle.std.specs.Prelude.{pos, ◌&&◌, IfSome}
 use Rattle.std.specs.Str.Parse.{digits_value}
 use Rattle.std.specs.List.{AllByRecursion}
 use Rattle.std.proofs.lemmas.Bool.{and_parts, leb-true, ltb-true}
@@ -9,31 +9,30 @@ use Rattle.ooc_types.specs.declared.refusal.RefusalKind.TheVariants.{BadPosition
 use Rattle.bound_tree.specs.declared.select.SortKey.{SortKey}
 use Rattle.bound_tree.specs.declared.select.Cut.{Cut}
 use Rattle.bound_tree.specs.declared.select.BoundSelect.{BoundSelect}
-use Rattle.bound_tree.specs.declared.select.BoundRows.TheViews.{out-roll-BoundSelect, roll-BoundSelect}
+use Rattle.bound_tree.specs.declared.select.BoundRows.TheViews.{out-roll-BoundSelect}
 use Rattle.sql_grammar.specs.declared.tree.expr.Span.{Span}
 use Rattle.sql_grammar.specs.declared.tree.select.Key.{Key}
 use Rattle.sql_grammar.specs.declared.tree.select.KeyColumn.{KeyColumn}
 use Rattle.sql_grammar.specs.declared.tree.select.KeyColumn.TheVariants.{Position, Name}
 use Rattle.sql_lex.specs.Values.{integer_value, is_integer}
 use Rattle.sql_scope.specs.declared.scope.ScopeColumn.{ScopeColumn}
-use Rattle.sql_scope.specs.Answer.{Answer, ◌>>=◌, each, or_refuse, unless}
+use Rattle.sql_scope.specs.Answer.{Answer, ◌>>=◌}
 use Rattle.sql_scope.specs.Scopes.{View}
 use Rattle.sql_scope.specs.Texts.{folded_at, text_at}
 use Rattle.sql_clauses.specs.declared.cores.NamedRows.{NamedRows}
-use Rattle.sql_clauses.specs.declared.cores.Core.{Core as BoundParts}
 use Rattle.sql_clauses.specs.declared.rows.Unordered.{Unordered}
 use Rattle.sql_clauses.specs.declared.rows.Unordered.TheVariants.{Core, Set}
-use Rattle.sql_clauses.specs.Cores.{finished, is_narrow, rows_of}
+use Rattle.sql_clauses.specs.Cores.{rows_of}
 use Rattle.sql_clauses.specs.Aggregates.{gathered}
 use Rattle.sql_clauses.specs.Numbers.{number_at, some_number, whole_number, written_number}
-use Rattle.sql_clauses.specs.Order.{cut, cut_of, key_behind, key_place, named_key, only_output, output_named, output_of, position, shows_column, sort_keys, with_key}
+use Rattle.sql_clauses.specs.Order.{cut, cut_of, key_behind, key_place, named_key, only_output, position, shows_column, sort_keys, with_key}
 use Rattle.sql_clauses.specs.Places.{first_place, places, seen}
 use Rattle.sql_clauses.specs.Rows.{cut_rows, finished_rows, output_columns, plain_outputs, select_of, select_with, source_columns}
 use Rattle.sql_clauses.specs.Tables.{is_called}
 use Rattle.well_formed.specs.Cores.{IsCoreNode}
 use Rattle.well_formed.specs.From.{IsSourceNode}
 use Rattle.well_formed.specs.Given.{Schemas, kinds_of_columns}
-use Rattle.well_formed.specs.Rows.{AnyConjunct, AnyInput, IsCut, IsNumber, IsRowsNode, IsSelectNode, IsWellFormedSelect}
+use Rattle.well_formed.specs.Rows.{AnyConjunct, AnyInput, IsCut, IsNumber, IsRowsNode, IsSelectNode}
 use Rattle.well_formed.proofs.Parts.{whole_made}
 use Rattle.sql_expr.specs.Operations.{IsProper}
 use Rattle.bound_tree.specs.declared.select.BoundCore.{BoundCore}
@@ -44,7 +43,7 @@ use Rattle.bound_tree.specs.declared.select.SourceRows.{SourceRows}
 use Rattle.bound_tree.specs.declared.select.BoundRows.TheOpen.{BoundSelect-F}
 use Rattle.formed_binding.specs.Named.{AreNamed, AreUnordered, IsSelected}
 use Rattle.formed_binding.specs.Answers.{OfAnswer}
-use Rattle.formed_binding.proofs.EachLemmas.{any-answer, asked-for, each-keeps, of-answer, on-answer, or-refused, whenever}
+use Rattle.formed_binding.proofs.EachLemmas.{any-answer, asked-for, each-keeps, on-answer, or-refused, whenever}
 use Rattle.formed_binding.proofs.TableLemmas.{all-behind}
 
 -- ---- numbers that a token writes
@@ -93,8 +92,8 @@ only-within at (place ∷ other ∷ more) count all = tt
 position-within : (count at n : ℕ) → OfAnswer (λ (place : ℕ). place < count) (position count at n)
 position-within count at n = asked-for (λ (place : ℕ). place < count) (nat_le 1 n && nat_le n count) at BadPosition (n - 1)
     (λ e. let parts = and_parts (nat_le 1 n) (nat_le n count) e in
-      let low : 1 ≤ n = leb-true 1 n parts.0 in
-      let high : n ≤ count = leb-true n count parts.1 in omega arith)
+    let low : 1 ≤ n = leb-true 1 n parts.0 in
+    let high : n ≤ count = leb-true n count parts.1 in omega arith)
 
 module _ (view : View) (sources : List ScopeColumn) (columns : List Column) (plain : List (Option ℕ)) (few : length plain ≤ length columns) where
   abbrev Within : ℕ → Type 0
@@ -136,8 +135,8 @@ module _ (view : View) (sources : List ScopeColumn) (columns : List Column) (pla
       on-answer AreWithin Formed (sort_keys view sources columns plain order) (λ (keys : List SortKey). written_number view limit >>= (λ (most : Option ℕ). written_number view offset >>= (λ (from : Option ℕ). Ok (cut_of keys most from))))
       (keys-within order)
       (λ keys are. on-answer Small Formed (written_number view limit) (λ (most : Option ℕ). written_number view offset >>= (λ (from : Option ℕ). Ok (cut_of keys most from))) (written-small view limit)
-        (λ most small. on-answer Small Formed (written_number view offset) (λ (from : Option ℕ). Ok (cut_of keys most from)) (written-small view offset)
-          (λ from little. cut-formed keys most from are small little)))
+      (λ most small. on-answer Small Formed (written_number view offset) (λ (from : Option ℕ). Ok (cut_of keys most from)) (written-small view offset)
+      (λ from little. cut-formed keys most from are small little)))
 
 -- ---- the whole
 
@@ -157,13 +156,13 @@ select-formed limit schemas view order most from rows are =
     let columns = output_columns rows in
     let Given : NamedRows → Type 0 = λ named. AreNamed limit schemas named × (named.columns ≡ columns) in
     on-answer (λ (c : Option Cut). IfSome c (IsCut (length columns))) Formed (cut_rows view rows order most from) (λ (window : Option Cut). finished_rows rows >>= select_with window)
-      (whole-cut view (source_columns rows) columns (plain_outputs rows) are.plain order most from)
-      (λ window formed. on-answer Given Formed (finished_rows rows) (select_with window)
-        (both-answers (AreNamed limit schemas) (λ (named : NamedRows). named.columns ≡ columns) (finished_rows rows) (whenever (AreNamed limit schemas) (finished_rows rows) are.finished) (finished-columns rows))
-        (λ named given.
-          let node : BoundSelect-F BoundRows Conjunct SourceRows BoundCore BoundSelect BoundSource = record { rows = named.rows; columns = named.columns; cut = window } in
-          record {
-            formed = whole_made IsRowsNode AnyConjunct AnyInput (IsCoreNode limit) IsSelectNode (IsSourceNode schemas) node given.0.rows
-                (record { columns = given.0.kinds; cut = subst (λ (list : List Column). IfSome window (IsCut (length list))) (sym given.1) formed });
-            proper = subst (λ (s : BoundSelect-F BoundRows Conjunct SourceRows BoundCore BoundSelect BoundSource). AllByRecursion IsProper (kinds_of_columns s.columns)) (sym (out-roll-BoundSelect node)) given.0.proper;
-          }))
+    (whole-cut view (source_columns rows) columns (plain_outputs rows) are.plain order most from)
+    (λ window formed. on-answer Given Formed (finished_rows rows) (select_with window)
+    (both-answers (AreNamed limit schemas) (λ (named : NamedRows). named.columns ≡ columns) (finished_rows rows) (whenever (AreNamed limit schemas) (finished_rows rows) are.finished) (finished-columns rows))
+    (λ named given.
+    let node : BoundSelect-F BoundRows Conjunct SourceRows BoundCore BoundSelect BoundSource = record { rows = named.rows; columns = named.columns; cut = window } in
+    record {
+      formed = whole_made IsRowsNode AnyConjunct AnyInput (IsCoreNode limit) IsSelectNode (IsSourceNode schemas) node given.0.rows
+          (record { columns = given.0.kinds; cut = subst (λ (list : List Column). IfSome window (IsCut (length list))) (sym given.1) formed });
+      proper = subst (λ (s : BoundSelect-F BoundRows Conjunct SourceRows BoundCore BoundSelect BoundSource). AllByRecursion IsProper (kinds_of_columns s.columns)) (sym (out-roll-BoundSelect node)) given.0.proper;
+    }))

@@ -1,6 +1,6 @@
 -- Set operations over well-formed rows.
-use Rattle.std.proofs.Common.{◌≡◌, ℕ, Bool, true, false, ◌==◌, List, [], ◌∷◌, ◌++◌, map, length, refl, sym, ap, ◌∙◌, subst, Option, Some, None, Ok, Err, cond, inl, inr, arith}
-use Rattle.std.specs.Prelude.{◌&&◌, ◌⊎◌, ⊤, Result, zip}
+use Rattle.std.proofs.Common.{◌≡◌, ℕ, Bool, true, false, ◌==◌, List, [], ◌∷◌, ◌++◌, length, refl, sym, ap, ◌∙◌, subst, Some, Ok, Err, cond, inl, inr, arith}
+use Rattle.std.specs.Prelude.{zip}
 use Rattle.std.proofs.lemmas.Bool.{and_parts}
 use Rattle.ooc_types.specs.declared.schema.Column.{Column}
 use Rattle.ooc_types.specs.declared.schema.SqlType.{SqlType}
@@ -8,9 +8,7 @@ use Rattle.ooc_types.specs.declared.schema.SqlType.TheVariants.{Boolean, Integer
 use Rattle.ooc_types.specs.declared.refusal.RefusalKind.TheVariants.{ColumnCount, TypeMismatch}
 use Rattle.std.specs.List.{AllByRecursion}
 use Rattle.sql_expr.specs.Operations.{IsProper, wider}
-use Rattle.bound_tree.specs.declared.kinds.SetKind.{SetKind}
-use Rattle.bound_tree.specs.declared.select.BoundRows.{BoundRows}
-use Rattle.bound_tree.specs.declared.select.BoundRows.TheVariants.{Set as SetRows, rolls-Set}
+use Rattle.bound_tree.specs.declared.select.BoundRows.TheVariants.{rolls-Set}
 use Rattle.bound_tree.specs.declared.select.BoundRows.TheOpen.{BoundRows-F}
 use Rattle.bound_tree.specs.declared.select.BoundRows.TheViews.{out-BoundRows, out-roll-BoundRows}
 use Rattle.sql_grammar.specs.declared.tree.select.SetKind.{SetKind as WrittenKind}
@@ -25,7 +23,7 @@ use Rattle.well_formed.specs.Rows.{AnyConjunct, AnyInput, AreCommon, AreWellForm
 use Rattle.well_formed.proofs.Parts.{rows_made}
 use Rattle.formed_binding.specs.Named.{AreNamed}
 use Rattle.formed_binding.specs.Answers.{OfAnswer}
-use Rattle.formed_binding.proofs.EachLemmas.{any-answer, asked-for, each-on, of-answer, on-answer, or-refused}
+use Rattle.formed_binding.proofs.EachLemmas.{asked-for, each-on, of-answer, on-answer, or-refused}
 use Rattle.formed_binding.proofs.TableLemmas.{map-behind}
 
 equal-numbers : (m n : ℕ) → (m == n) ≡ true → m ≡ n
@@ -89,8 +87,8 @@ paired place (l ∷ left) (r ∷ right) before same =
     let Next : List Column → Type 0 = λ after. (kind : SqlType) × ((IsCommon l.kind r.kind kind) × (kinds_of_columns after ≡ kinds_of_columns before ++ kind ∷ [])) in
     each-on Next All (pair_behind place) (or_refuse (common_type l.kind r.kind) place TypeMismatch >>= with_column l before) (zip left right)
     (on-answer (IsCommon l.kind r.kind) Next (or_refuse (common_type l.kind r.kind) place TypeMismatch) (with_column l before)
-      (or-refused (IsCommon l.kind r.kind) (common_type l.kind r.kind) place TypeMismatch (λ kind is. common l.kind r.kind kind is))
-      (λ kind is. (kind, (is, map-behind (λ (c : Column). c.kind) before (record { name = l.name; kind = kind; nullable = true })))))
+    (or-refused (IsCommon l.kind r.kind) (common_type l.kind r.kind) place TypeMismatch (λ kind is. common l.kind r.kind kind is))
+    (λ kind is. (kind, (is, map-behind (λ (c : Column). c.kind) before (record { name = l.name; kind = kind; nullable = true })))))
     (λ after next. keep place l r left right before after next.0 next.1.0 next.1.1 (each (pair_behind place) (Ok after) (zip left right)) (paired place left right after (omega arith)))
 
 wider-proper : (k l kind : SqlType) → wider k l ≡ Some kind → IsProper kind
@@ -119,22 +117,22 @@ pub combined-named : (limit : ℕ) (schemas : Schemas) (kind : WrittenKind) (all
 combined-named limit schemas kind all place left right named l r is =
     of-answer (AreNamed limit schemas) (combined kind all place left right) named
     (on-answer (λ (columns : List Column). AreCommon (kinds_of_columns left.columns) (kinds_of_columns right.columns) (kinds_of_columns columns)) (AreNamed limit schemas)
-      (common_columns place left.columns right.columns) (set_rows (set_kind kind) all left right)
-      (on-answer (λ (pairs : List (Column × Column)). (pairs ≡ zip left.columns right.columns) × (length left.columns ≡ length right.columns)) (λ (columns : List Column). AreCommon (kinds_of_columns left.columns) (kinds_of_columns right.columns) (kinds_of_columns columns))
-        (unless (length left.columns == length right.columns) place ColumnCount (zip left.columns right.columns)) (each (pair_behind place) (Ok []))
-        (asked-for (λ (pairs : List (Column × Column)). (pairs ≡ zip left.columns right.columns) × (length left.columns ≡ length right.columns)) (length left.columns == length right.columns) place ColumnCount (zip left.columns right.columns)
-          (λ e. (refl, equal-numbers (length left.columns) (length right.columns) e)))
-        (λ pairs h. subst (λ (list : List (Column × Column)). OfAnswer (λ (columns : List Column). AreCommon (kinds_of_columns left.columns) (kinds_of_columns right.columns) (kinds_of_columns columns)) (each (pair_behind place) (Ok []) list)) (sym h.0)
-          (whole-paired place left.columns right.columns (each (pair_behind place) (Ok []) (zip left.columns right.columns)) (paired place left.columns right.columns [] h.1))))
-      (λ columns are.
-        let kinds = types_of columns in
-        let node = BoundRows-F.Set (set_kind kind) all left.rows right.rows kinds in
-        let common_kinds : AreCommon (kinds_of_rows left.rows) (kinds_of_rows right.rows) kinds =
-            subst (λ (k : List SqlType). AreCommon k (kinds_of_rows right.rows) kinds) l.kinds (subst (λ (k : List SqlType). AreCommon (kinds_of_columns left.columns) k kinds) r.kinds are) in
-        record {
-          rows = subst (AreWellFormedRows limit schemas) (rolls-Set (set_kind kind) all left.rows right.rows kinds)
-              (rows_made IsRowsNode AnyConjunct AnyInput (IsCoreNode limit) IsSelectNode (IsSourceNode schemas) node (l.rows, r.rows) common_kinds);
-          proper = common-proper (kinds_of_columns left.columns) (kinds_of_columns right.columns) (kinds_of_columns columns) l.proper are;
-          kinds = sym (ap kinds_in_rows (ap out-BoundRows (sym (rolls-Set (set_kind kind) all left.rows right.rows kinds)) ∙ out-roll-BoundRows node));
-        }))
+    (common_columns place left.columns right.columns) (set_rows (set_kind kind) all left right)
+    (on-answer (λ (pairs : List (Column × Column)). (pairs ≡ zip left.columns right.columns) × (length left.columns ≡ length right.columns)) (λ (columns : List Column). AreCommon (kinds_of_columns left.columns) (kinds_of_columns right.columns) (kinds_of_columns columns))
+    (unless (length left.columns == length right.columns) place ColumnCount (zip left.columns right.columns)) (each (pair_behind place) (Ok []))
+    (asked-for (λ (pairs : List (Column × Column)). (pairs ≡ zip left.columns right.columns) × (length left.columns ≡ length right.columns)) (length left.columns == length right.columns) place ColumnCount (zip left.columns right.columns)
+    (λ e. (refl, equal-numbers (length left.columns) (length right.columns) e)))
+    (λ pairs h. subst (λ (list : List (Column × Column)). OfAnswer (λ (columns : List Column). AreCommon (kinds_of_columns left.columns) (kinds_of_columns right.columns) (kinds_of_columns columns)) (each (pair_behind place) (Ok []) list)) (sym h.0)
+    (whole-paired place left.columns right.columns (each (pair_behind place) (Ok []) (zip left.columns right.columns)) (paired place left.columns right.columns [] h.1))))
+    (λ columns are.
+    let kinds = types_of columns in
+    let node = BoundRows-F.Set (set_kind kind) all left.rows right.rows kinds in
+    let common_kinds : AreCommon (kinds_of_rows left.rows) (kinds_of_rows right.rows) kinds =
+    subst (λ (k : List SqlType). AreCommon k (kinds_of_rows right.rows) kinds) l.kinds (subst (λ (k : List SqlType). AreCommon (kinds_of_columns left.columns) k kinds) r.kinds are) in
+    record {
+      rows = subst (AreWellFormedRows limit schemas) (rolls-Set (set_kind kind) all left.rows right.rows kinds)
+          (rows_made IsRowsNode AnyConjunct AnyInput (IsCoreNode limit) IsSelectNode (IsSourceNode schemas) node (l.rows, r.rows) common_kinds);
+      proper = common-proper (kinds_of_columns left.columns) (kinds_of_columns right.columns) (kinds_of_columns columns) l.proper are;
+      kinds = sym (ap kinds_in_rows (ap out-BoundRows (sym (rolls-Set (set_kind kind) all left.rows right.rows kinds)) ∙ out-roll-BoundRows node));
+    }))
     is

@@ -1,14 +1,13 @@
 -- The sources of FROM.
-use Rattle.std.proofs.Common.{◌≡◌, ◌≢◌, ℕ, zero, suc, ◌+◌, ◌-◌, ◌<◌, ◌≤◌, Bool, true, false, ◌==◌, nat_le, List, [], ◌∷◌, ◌++◌, map, length, refl, sym, ap, ◌∙◌, subst, Option, Some, None, Ok, Err, cond, arith}
-use Rattle.std.specs.Prelude.{◌||◌, not, ⊤, flat_map, is_some, Result}
+use Rattle.std.proofs.Common.{◌≡◌, ◌≢◌, ℕ, ◌+◌, ◌≤◌, Bool, true, false, ◌==◌, nat_le, List, [], ◌∷◌, ◌++◌, map, length, refl, sym, ap, ◌∙◌, subst, Option, Some, None, cond, arith}
+use Rattle.std.specs.Prelude.{not}
 use Rattle.std.specs.Option.{option_map}
 use Rattle.std.specs.Str.{bytes_eq}
 use Rattle.std.specs.List.{AllByRecursion}
-use Rattle.std.proofs.lemmas.Slice.Eq.{bytes_eq-Decides}
 use Rattle.std.proofs.lemmas.Bool.{leb-true}
 use Rattle.ooc_types.specs.declared.schema.Column.{Column}
 use Rattle.ooc_types.specs.declared.schema.SqlType.{SqlType}
-use Rattle.ooc_types.specs.declared.refusal.RefusalKind.TheVariants.{DuplicateName, NoTable, TooManyColumns, TooManyTables}
+use Rattle.ooc_types.specs.declared.refusal.RefusalKind.TheVariants.{DuplicateName, NoTable, TooManyColumns}
 use Rattle.sql_expr.specs.Operations.{IsProper}
 use Rattle.bound_tree.specs.declared.kinds.JoinKind.{JoinKind}
 use Rattle.bound_tree.specs.declared.select.BoundCore.{BoundCore}
@@ -19,21 +18,21 @@ use Rattle.bound_tree.specs.declared.select.Conjunct.{Conjunct}
 use Rattle.bound_tree.specs.declared.select.SourceRows.{SourceRows}
 use Rattle.bound_tree.specs.declared.select.SourceRows.TheVariants.{Table, Query, rolls-Table, rolls-Query}
 use Rattle.bound_tree.specs.declared.select.BoundRows.TheOpen.{BoundSource-F, SourceRows-F}
-use Rattle.bound_tree.specs.declared.select.BoundRows.TheViews.{out-BoundSelect, out-BoundSource, out-SourceRows, out-roll-BoundSource, out-roll-SourceRows, roll-BoundSource}
+use Rattle.bound_tree.specs.declared.select.BoundRows.TheViews.{out-BoundSelect, out-BoundSource, out-SourceRows, out-roll-BoundSource, out-roll-SourceRows}
 use Rattle.sql_grammar.specs.declared.tree.expr.Span.{Span}
 use Rattle.sql_scope.specs.declared.scope.ScopeColumn.{ScopeColumn}
 use Rattle.sql_scope.specs.declared.scope.TableColumns.{TableColumns}
-use Rattle.sql_scope.specs.Answer.{Answer, ◌>>=◌, or_refuse, unless}
+use Rattle.sql_scope.specs.Answer.{or_refuse}
 use Rattle.sql_scope.specs.Texts.{folded, folded_at}
 use Rattle.sql_scope.specs.Scopes.{View, columns_of}
 use Rattle.sql_clauses.specs.declared.sources.Sources.{Sources}
 use Rattle.sql_clauses.specs.Names.{name_of}
 use Rattle.sql_clauses.specs.Sets.{types_of}
-use Rattle.sql_clauses.specs.Sources.{a_source, all_sources, few_columns, few_sources, has_source, is_called, most_sources, named_table, ninth_of, query_source, scope_column, scope_columns, source_behind, source_name, table_source, with_source}
+use Rattle.sql_clauses.specs.Sources.{a_source, all_sources, few_columns, few_sources, has_source, is_called, most_sources, query_source, scope_columns, source_behind, source_name, table_source, with_source}
 use Rattle.sql_clauses.specs.Tables.{most_columns}
 use Rattle.well_formed.specs.Cores.{IsCoreNode}
 use Rattle.well_formed.specs.From.{HasKinds, HasKindsIn, IsSourceNode, names_of}
-use Rattle.well_formed.specs.Given.{Schemas, kinds_of_columns, kinds_of_select, kinds_of_source, kinds_of_sources}
+use Rattle.well_formed.specs.Given.{Schemas, kinds_of_columns, kinds_of_source, kinds_of_sources}
 use Rattle.well_formed.specs.Names.{AreApart, in_small_letters}
 use Rattle.well_formed.specs.Rows.{AnyConjunct, AnyInput, IsRowsNode, IsSelectNode, IsWellFormedInput, IsWellFormedSource}
 use Rattle.well_formed.specs.Statements.{IsSchema}
@@ -143,9 +142,9 @@ module _ (view : View) where
       (or_refuse (columns_of view.tables table) name.start NoTable) (λ (columns : List Column). source_behind name.start (source_name name alias).start (name_of view (source_name name alias)) join (Table table) columns sources)
       (or-refused (λ (columns : List Column). columns_of view.tables table ≡ Some columns) (columns_of view.tables table) name.start NoTable (λ columns is. is))
       (λ columns is. source-next name.start (source_name name alias).start (name_of view (source_name name alias)) join (Table table) columns sources joins
-        (subst (IsWellFormedInput view.limit schemas) (rolls-Table table) (input_made IsRowsNode AnyConjunct AnyInput (IsCoreNode view.limit) IsSelectNode (IsSourceNode schemas) (SourceRows-F.Table table) tt tt))
-        (subst (HasKindsIn schemas (types_of columns)) (sym (ap out-SourceRows (sym (rolls-Table table)) ∙ out-roll-SourceRows (SourceRows-F.Table table))) (ap (option_map kinds_of_columns) is))
-        (schema-proper columns (there view.tables table columns tables is)) are)
+      (subst (IsWellFormedInput view.limit schemas) (rolls-Table table) (input_made IsRowsNode AnyConjunct AnyInput (IsCoreNode view.limit) IsSelectNode (IsSourceNode schemas) (SourceRows-F.Table table) tt tt))
+      (subst (HasKindsIn schemas (types_of columns)) (sym (ap out-SourceRows (sym (rolls-Table table)) ∙ out-roll-SourceRows (SourceRows-F.Table table))) (ap (option_map kinds_of_columns) is))
+      (schema-proper columns (there view.tables table columns tables is)) are)
 
   pub query-next : (join : JoinKind) (place : ℕ) (alias : Span) (sources : Sources) (joins : List JoinKind) (query : BoundSelect) → IsSelected view.limit schemas query → AreSources view sources joins
       → OfAnswer (λ t. AreSources view t (joins ++ join ∷ [])) (query_source view join place alias sources query)
@@ -159,7 +158,7 @@ module _ (view : View) where
   all-there place sources joins are =
       on-answer (λ t. (t ≡ sources) × (length sources.list ≤ 8)) (λ t. AreAll view t joins) (few_sources sources sources.ninth) (few_columns place) (by sources.ninth refl)
       (λ t h. subst (λ u. OfAnswer (λ t. AreAll view t joins) (few_columns place u)) (sym h.0)
-        (asked-for (λ t. AreAll view t joins) (nat_le (length sources.columns) most_columns) place TooManyColumns sources (λ e. record { are = are; few = h.1; narrow = leb-true (length sources.columns) 64 e })))
+      (asked-for (λ t. AreAll view t joins) (nat_le (length sources.columns) most_columns) place TooManyColumns sources (λ e. record { are = are; few = h.1; narrow = leb-true (length sources.columns) 64 e })))
     where
       by : (o : Option ℕ) → sources.ninth ≡ o → OfAnswer (λ t. (t ≡ sources) × (length sources.list ≤ 8)) (few_sources sources o)
       by None e = (refl, are.few e)

@@ -1,6 +1,6 @@
 -- CREATE TABLE and DROP TABLE.
-use Rattle.std.proofs.Common.{◌≡◌, ◌≢◌, ℕ, ◌≤◌, Bool, true, false, nat_le, List, [], ◌∷◌, ◌++◌, map, length, refl, sym, ap, ◌∙◌, subst, cond, codes, arith, Option, Some, None, Ok, Err, IsTrue}
-use Rattle.std.specs.Prelude.{not, is_some, is_none, ◌||◌, ◌&&◌, ⊤, Result}
+use Rattle.std.proofs.Common.{◌≡◌, ◌≢◌, ℕ, ◌≤◌, Bool, true, false, nat_le, List, [], ◌∷◌, ◌++◌, map, length, refl, sym, ap, subst, cond, codes, arith, Option, Some, None, Ok}
+use Rattle.std.specs.Prelude.{not, is_some, is_none, ◌||◌, ◌&&◌}
 use Rattle.std.specs.Str.{bytes_eq}
 use Rattle.std.proofs.lemmas.Slice.Eq.{bytes_eq-Decides}
 use Rattle.std.specs.List.{AllByRecursion}
@@ -11,19 +11,18 @@ use Rattle.ooc_types.specs.declared.schema.SqlType.TheVariants as kinds
 use Rattle.ooc_types.specs.declared.refusal.RefusalKind.TheVariants.{NoTable, TableExists, DuplicateName, TooManyColumns, NoType, DecimalTooWide}
 use Rattle.sql_expr.specs.Operations.{IsProper}
 use Rattle.bound_tree.specs.declared.statement.Bound.{Bound}
-use Rattle.bound_tree.specs.declared.statement.Bound.TheVariants.{CreateTable, DropTable}
+use Rattle.bound_tree.specs.declared.statement.Bound.TheVariants.{CreateTable}
 use Rattle.sql_grammar.specs.declared.tree.expr.Span.{Span}
 use Rattle.sql_grammar.specs.declared.tree.statement.Column.{Column as WrittenColumn}
 use Rattle.sql_grammar.specs.declared.tree.statement.Sizes.{Sizes}
-use Rattle.sql_scope.specs.Answer.{Answer, ◌>>=◌, each}
+use Rattle.sql_scope.specs.Answer.{◌>>=◌, each}
 use Rattle.sql_scope.specs.Texts.{folded, folded_at}
 use Rattle.sql_scope.specs.Scopes.{View, columns_of}
 use Rattle.sql_clauses.specs.Numbers.{number_at}
-use Rattle.sql_clauses.specs.Tables.{a_column, column_behind, create_table, drop_table, dropped, has_column, is_called, is_table, known_name, known_table, most_columns, named_column, new_table, table_of, with_column}
+use Rattle.sql_clauses.specs.Tables.{a_column, column_behind, create_table, drop_table, dropped, has_column, is_called, is_table, known_table, most_columns, named_column, new_table, table_of}
 use Rattle.sql_clauses.specs.Types.{decimal_type, declared_type, is_decimal, is_either, scale_of, sized_decimal, sized_varchar, type_of_word, type_word, unsized_type}
-use Rattle.well_formed.specs.Given.{Schemas}
 use Rattle.well_formed.specs.Names.{AreApart, in_small_letters}
-use Rattle.well_formed.specs.Statements.{IsSchema, IsThere, IsWellFormed}
+use Rattle.well_formed.specs.Statements.{IsThere, IsWellFormed}
 use Rattle.formed_binding.specs.Answers.{OfAnswer}
 use Rattle.formed_binding.proofs.EachLemmas.{any-answer, asked-for, each-keeps, of-answer, on-answer}
 
@@ -66,8 +65,8 @@ new-column name (column ∷ columns) e =
 proper-decimal : (place width scale : ℕ) → OfAnswer IsProper (decimal_type place width scale)
 proper-decimal place width scale = asked-for IsProper (is_decimal width scale) place DecimalTooWide (kinds.Decimal width scale)
     (λ e. let parts = and_parts (nat_le 1 width && nat_le width 38) (nat_le scale width) e in
-      let ends = and_parts (nat_le 1 width) (nat_le width 38) parts.0 in
-      (leb-true 1 width ends.0, leb-true width 38 ends.1, leb-true scale width parts.1))
+    let ends = and_parts (nat_le 1 width) (nat_le width 38) parts.0 in
+    (leb-true 1 width ends.0, leb-true width 38 ends.1, leb-true scale width parts.1))
 
 proper-sized : (view : View) (place : ℕ) (sizes : Option Sizes) → OfAnswer IsProper (sized_decimal view place sizes)
 proper-sized view place None = let a : 1 ≤ 18 = omega arith in let b : 18 ≤ 38 = omega arith in let c : 3 ≤ 18 = omega arith in (a, b, c)
@@ -104,14 +103,14 @@ next-column : (view : View) (written : WrittenColumn) (columns : List Column) �
 next-column view written columns are =
     on-answer IsProper AreColumns (declared_type view written.kind) (named_column view written columns) (proper-word view written.kind.name.start written.kind.sizes (folded_at view.script written.kind.name))
     (λ kind proper.
-      let column = a_column view written kind in
-      let name = folded_at view.script written.name in
-      asked-for AreColumns (not (has_column name columns)) written.name.start DuplicateName (columns ++ column ∷ [])
-      (λ e. record {
-        proper = all-behind (λ (c : Column). IsProper c.kind) columns column are.proper proper;
-        names = subst AreApart (sym (map-behind (λ (c : Column). c.name) columns column))
-            (apart-behind (map (λ (c : Column). c.name) columns) column.name are.names (new-column name columns (false-of (has_column name columns) e)));
-      }))
+    let column = a_column view written kind in
+    let name = folded_at view.script written.name in
+    asked-for AreColumns (not (has_column name columns)) written.name.start DuplicateName (columns ++ column ∷ [])
+    (λ e. record {
+      proper = all-behind (λ (c : Column). IsProper c.kind) columns column are.proper proper;
+      names = subst AreApart (sym (map-behind (λ (c : Column). c.name) columns column))
+          (apart-behind (map (λ (c : Column). c.name) columns) column.name are.names (new-column name columns (false-of (has_column name columns) e)));
+    }))
 
 all-columns : (view : View) (columns : List WrittenColumn) → OfAnswer AreColumns (each (column_behind view) (Ok []) columns)
 all-columns view columns = each-keeps AreColumns (column_behind view) (Ok []) columns (record { proper = tt; names = tt }) (λ written before are. next-column view written before are)
@@ -132,10 +131,10 @@ created-formed limit view name columns bound is =
     let table = folded_at view.script name in
     of-answer Formed (create_table view name columns) bound
     (on-answer (λ (t : List ℕ). columns_of view.tables t ≡ None) Formed (new_table view name) (λ (t : List ℕ). each (column_behind view) (Ok []) columns >>= table_of name.start t)
-      (asked-for (λ (t : List ℕ). columns_of view.tables t ≡ None) (not (is_table view table)) name.start TableExists table (λ e. not-there (columns_of view.tables table) e))
-      (λ t new. on-answer AreColumns Formed (each (column_behind view) (Ok []) columns) (table_of name.start t) (all-columns view columns)
-        (λ list are. asked-for Formed (nat_le (length list) most_columns) name.start TooManyColumns (CreateTable t list)
-          (λ e. record { new = new; schema = record { few = leb-true (length list) most_columns e; proper = are.proper; names = are.names } }))))
+    (asked-for (λ (t : List ℕ). columns_of view.tables t ≡ None) (not (is_table view table)) name.start TableExists table (λ e. not-there (columns_of view.tables table) e))
+    (λ t new. on-answer AreColumns Formed (each (column_behind view) (Ok []) columns) (table_of name.start t) (all-columns view columns)
+    (λ list are. asked-for Formed (nat_le (length list) most_columns) name.start TooManyColumns (CreateTable t list)
+    (λ e. record { new = new; schema = record { few = leb-true (length list) most_columns e; proper = are.proper; names = are.names } }))))
     is
 
 pub known : (view : View) (name : Span) → OfAnswer (IsThere (columns_of view.tables)) (known_table view name)

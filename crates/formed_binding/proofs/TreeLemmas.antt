@@ -1,17 +1,16 @@
 -- Typed trees by their nodes, and trees over the row of a group.
-use Rattle.std.proofs.Common.{◌≡◌, ℕ, ◌+◌, ◌<◌, ◌≤◌, Bool, true, false, ◌⊎◌, inl, inr, ⊎_elim, List, [], ◌∷◌, map, length, refl, sym, ap, ◌∙◌, subst, Option, Some, None, cond, arith}
-use Rattle.std.specs.Prelude.{◌||◌, ⊤, slice_get}
+use Rattle.std.proofs.Common.{◌≡◌, ℕ, ◌+◌, ◌≤◌, Bool, true, false, inl, inr, List, [], ◌∷◌, map, refl, sym, ap, ◌∙◌, subst, Option, Some, None, cond}
+use Rattle.std.specs.Prelude.{◌||◌, slice_get}
 use Rattle.std.specs.List.{AllByRecursion}
 use Rattle.ooc_types.specs.declared.schema.SqlType.{SqlType}
 use Rattle.ooc_types.specs.declared.schema.SqlType.TheVariants.{Boolean}
-use Rattle.ooc_types.specs.declared.value.Value.{Value}
 use Rattle.sql_expr.specs.declared.tree.Expr.{Expr}
 use Rattle.sql_expr.specs.declared.tree.Link.{Link}
 use Rattle.sql_expr.specs.declared.tree.Expr.TheOpen.{Expr-F, Link-F}
 use Rattle.sql_expr.specs.declared.tree.Expr.TheFolds.{every-Expr, every-Link, every_here-Expr, every_held-Expr, every_held-Link, ind-Expr, map-Expr}
 use Rattle.sql_expr.specs.declared.tree.Expr.TheVariants as tree
 use Rattle.sql_expr.specs.declared.tree.Expr.TheVariants.{rolls-Constant, rolls-Column, rolls-Not, rolls-Minus, rolls-Every, rolls-Either, rolls-Chain, rolls-Compare, rolls-IsNull, rolls-Like, rolls-OneOf, rolls-Between}
-use Rattle.sql_expr.specs.declared.tree.Expr.TheViews.{out-Expr, roll-Expr, roll-Link, out-roll-Expr}
+use Rattle.sql_expr.specs.declared.tree.Expr.TheViews.{out-Expr, roll-Expr, out-roll-Expr}
 use Rattle.sql_expr.specs.Kinds.{kind_of, kind_step, link_kind, last_kind}
 use Rattle.sql_expr.specs.Operations.{IsAmount, IsComparable, IsLinked}
 use Rattle.sql_expr.specs.Typing.{AnyLink, AreLinks, IsTyped, IsTypedNode}
@@ -23,7 +22,6 @@ use Rattle.sql_clauses.specs.Grouping.{key_from, over_group, list_over, link_ove
 use Rattle.sql_clauses.proofs.Regrouping.{over_key, over_constant, over_column, over_not, over_minus, over_every, over_either, over_chain, over_compare, over_null_test, over_like, over_one_of, over_between}
 use Rattle.sql_scope.specs.Equality.{same}
 use Rattle.sql_scope.specs.Parts.{is_key}
-use Rattle.sql_scope.proofs.Sameness.{equal-same}
 use Rattle.typed_scope.specs.Typed.{IsTypedNodeOver, IsTypedOver, Seen}
 use Rattle.formed_binding.specs.Covered.{Covered, by_key, by_parts, IsBeyond, IsChild, IsIn, IsInLinks}
 
@@ -53,8 +51,8 @@ open-node N e x every is =
     }
 
 pub close-node : (N : Expr-F Expr Link → Type 0) (e : Expr) (x : Expr-F Expr Link) → out-Expr e ≡ x → N x → Children (every-Expr N AnyLink) x → every-Expr N AnyLink e
-close-node N e (Expr-F.Constant value kind) is node h = subst (every-Expr N AnyLink) (sym (is_rolled e (Expr-F.Constant value kind) is ∙ rolls-Constant value kind)) (every_constant N value kind  node)
-close-node N e (Expr-F.Column place kind) is node h = subst (every-Expr N AnyLink) (sym (is_rolled e (Expr-F.Column place kind) is ∙ rolls-Column place kind)) (every_column N place kind  node)
+close-node N e (Expr-F.Constant value kind) is node h = subst (every-Expr N AnyLink) (sym (is_rolled e (Expr-F.Constant value kind) is ∙ rolls-Constant value kind)) (every_constant N value kind node)
+close-node N e (Expr-F.Column place kind) is node h = subst (every-Expr N AnyLink) (sym (is_rolled e (Expr-F.Column place kind) is ∙ rolls-Column place kind)) (every_column N place kind node)
 close-node N e (Expr-F.Not of) is node h = subst (every-Expr N AnyLink) (sym (is_rolled e (Expr-F.Not of) is ∙ rolls-Not of)) (every_not N of h node)
 close-node N e (Expr-F.Minus of kind) is node h = subst (every-Expr N AnyLink) (sym (is_rolled e (Expr-F.Minus of kind) is ∙ rolls-Minus of kind)) (every_minus N of kind h node)
 close-node N e (Expr-F.Every list) is node h = subst (every-Expr N AnyLink) (sym (is_rolled e (Expr-F.Every list) is ∙ rolls-Every list)) (every_every N list h node)

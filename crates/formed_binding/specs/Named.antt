@@ -1,5 +1,5 @@
 -- Rows with the names and types of their columns, as they are bound behind FROM to HAVING or over a set operation.
-use Rattle.std.specs.Prelude.{◌≡◌, ℕ, ◌≤◌, List, length, Ok}
+use Rattle.std.specs.Prelude.{◌≡◌, ℕ, ◌≤◌, length, Ok}
 use Rattle.std.specs.List.{AllByRecursion}
 use Rattle.sql_expr.specs.Operations.{IsProper}
 use Rattle.bound_tree.specs.declared.select.BoundSelect.{BoundSelect}

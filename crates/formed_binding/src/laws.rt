@@ -85,7 +85,7 @@ pub fn covered_trees_are_typed_over_groups()
         → AllByRecursion (λ call. IsAggregate limit columns call.aggregate) calls → ((place : ℕ) → calls_at calls place ≤ 1)
         → Covered keys (length columns) e → IsTypedOver (seen_of columns calls) e
         → IsTyped (map kind_of keys ++ map (λ aggregate. aggregate.result) (gathered calls).aggregates)
-            (over_group keys (group_place (length keys) (length columns) (gathered calls).calls) e) }
+        (over_group keys (group_place (length keys) (length columns) (gathered calls).calls) e) }
 {}
 
 /// The aggregates of a core are each other's equals nowhere, are those that were written, and a `count(DISTINCT x)` stands

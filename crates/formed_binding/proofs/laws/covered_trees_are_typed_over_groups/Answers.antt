@@ -1,7 +1,3 @@
-use Rattle.std.specs.Prelude.{length}
-use Rattle.sql_clauses.specs.Aggregates.{gathered}
-use Rattle.sql_clauses.specs.Grouping.{group_place}
-use Rattle.typed_scope.specs.Typed.{seen_of}
 use Rattle.formed_binding.proofs.GatherLemmas.{group-typed}
 use Rattle.formed_binding.proofs.TreeLemmas.{over-kind, over-short}
 use Rattle.formed_binding.proofs.laws.covered_trees_are_typed_over_groups.Goals as goal
