@@ -10,3 +10,4 @@ mod OperationLemmas
 mod GatherLemmas
 mod SourceLemmas
 mod JoinLemmas
+mod WhereLemmas

@@ -3,3 +3,4 @@ pub mod Named
 pub mod Covered
 pub mod Parts
 pub mod Sources
+pub mod Filters

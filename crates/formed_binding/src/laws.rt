@@ -35,7 +35,11 @@ ghost use Rattle.sql_clauses.specs.declared.rows.Unordered.{Unordered as Rows};
 ghost use Rattle.sql_clauses.specs.declared.joins.Joined.{Joined as JoinedSources};
 ghost use Rattle.sql_clauses.specs.declared.sources.Sources.{Sources};
 ghost use Rattle.sql_clauses.specs.Aggregates.{are_unmixed, gathered};
-ghost use Rattle.sql_clauses.specs.Conditions.{conjuncts};
+ghost use Rattle.sql_clauses.specs.declared.conditions.Filter.{Filter as WhereFilter};
+ghost use Rattle.sql_clauses.specs.declared.conditions.FilterOperand.{FilterOperand as WhereOperand};
+ghost use Rattle.sql_clauses.specs.Conditions.{conjuncts, plain_operand};
+ghost use Rattle.sql_clauses.specs.Conditions as clauses;
+ghost use Rattle.sql_clauses.specs.Membership.{member};
 ghost use Rattle.sql_clauses.specs.Copies.{copy_table};
 ghost use Rattle.sql_clauses.specs.Grouping.{group_place, over_group};
 ghost use Rattle.sql_clauses.specs.Joins.{join_on, join_plainly, on_width};
@@ -50,6 +54,7 @@ ghost use Rattle.well_formed.specs.Given.{Schemas};
 ghost use Rattle.well_formed.specs.Statements.{IsSchema, IsWellFormed};
 ghost use Rattle.formed_binding.specs.Answers.{OfAnswer};
 ghost use Rattle.formed_binding.specs.Covered.{Covered};
+ghost use Rattle.formed_binding.specs.Filters.{AreConjuncts, IsFilter, IsOperand};
 ghost use Rattle.formed_binding.specs.Named.{AreNamed, AreUnordered, IsSelected};
 ghost use Rattle.formed_binding.specs.Parts.{AreConditions, AreListed, IsChain, IsPart, IsView, calls_at, one_if};
 ghost use Rattle.formed_binding.specs.Sources.{AreAll, AreJoinedAs, AreSources};
@@ -155,4 +160,15 @@ pub fn joins_are_well_formed()
     ensures on { (view : Scope) (names : List (List ℕ)) (all : List Joining) (kind : Joining) (left : List Joining) (place : ℕ) (joined : JoinedSources) (part : BoundPart) → ((on : List Tree) → MayHave kind on)
         → AreJoinedAs view names all (kind ∷ left) joined → IsExpr view.limit (take (on_width joined) (kinds view)) part.tree → OfAnswer (AreJoinedAs view names all left) (join_on place joined part) }
     ensures conjuncts { (limit : ℕ) (columns : List Kind) (e : Tree) → IsExpr limit columns e → kind_of e ≡ Boolean → AllByRecursion (IsCondition limit columns) (conjuncts e) }
+{}
+
+/// WHERE, operand by operand of its outermost AND: conditions, and IN with a subquery of one column that compares.
+pub fn operands_of_where_are_well_formed()
+    ensures plain { (limit : ℕ) (schemas : Schemas) (columns : List Kind) (part : BoundPart) → IsExpr limit columns part.tree → OfAnswer (IsOperand limit schemas columns) (plain_operand part) }
+    ensures member { (limit : ℕ) (schemas : Schemas) (columns : List Kind) (place at : ℕ) (negated : Bool) (of : BoundPart) (query : Select) → IsExpr limit columns of.tree → IsSelected limit schemas query
+        → OfAnswer (IsOperand limit schemas columns) (member place at negated of query) }
+    ensures begun { (limit : ℕ) (schemas : Schemas) (columns : List Kind) (operand : WhereOperand) → IsOperand limit schemas columns operand → OfAnswer (IsFilter limit schemas columns) (clauses.begun operand) }
+    ensures joined { (limit : ℕ) (schemas : Schemas) (columns : List Kind) (place : ℕ) (filter : WhereFilter) (operand : WhereOperand) → IsFilter limit schemas columns filter → IsOperand limit schemas columns operand
+        → OfAnswer (IsFilter limit schemas columns) (clauses.joined place filter operand) }
+    ensures ended { (limit : ℕ) (schemas : Schemas) (columns : List Kind) (place : ℕ) (filter : WhereFilter) → IsFilter limit schemas columns filter → OfAnswer (AreConjuncts limit schemas columns) (clauses.ended place filter) }
 {}
