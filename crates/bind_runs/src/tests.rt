@@ -467,7 +467,7 @@ static STATEMENTS_BOUND: [(&str, &str); 6] = [
     ),
 ];
 
-static SELECTS_BOUND: [(&str, &str); 14] = [
+static SELECTS_BOUND: [(&str, &str); 16] = [
     (
         "SELECT a AS n FROM t WHERE b = 1 AND e ORDER BY n DESC, 1 LIMIT 2",
         "(select (first t t) (where (= #1 1) #4) (items #0) (to n int) (order #0-desc #0 limit2))",
@@ -586,6 +586,14 @@ static OTHERS_BOUND: [(&str, &str); 16] = [
     (
         "SELECT k FROM u GROUP BY k ORDER BY k",
         "(select (first u u) (keys #1) (items #0) (to k text) (order #0))",
+    ),
+    (
+        "SELECT 1 FROM t GROUP BY e AND b = 1 HAVING e AND b = 1",
+        "(select (first t t) (keys (and #4 (= #1 1))) (having #0) (items 1) (to col1 int))",
+    ),
+    (
+        "SELECT 1 FROM t GROUP BY e AND b = 1 HAVING (e AND b = 1) AND count(*) > 1",
+        "(select (first t t) (keys (and #4 (= #1 1))) (count-rows big) (having #0 (> #1 1)) (items 1) (to col1 int))",
     ),
     (
         "SELECT count(*) FROM t HAVING count(*) > 1 AND sum(b) < 5",
