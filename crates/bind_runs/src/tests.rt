@@ -467,7 +467,7 @@ static STATEMENTS_BOUND: [(&str, &str); 6] = [
     ),
 ];
 
-static SELECTS_BOUND: [(&str, &str); 16] = [
+static SELECTS_BOUND: [(&str, &str); 14] = [
     (
         "SELECT a AS n FROM t WHERE b = 1 AND e ORDER BY n DESC, 1 LIMIT 2",
         "(select (first t t) (where (= #1 1) #4) (items #0) (to n int) (order #0-desc #0 limit2))",
@@ -526,7 +526,7 @@ static SELECTS_BOUND: [(&str, &str); 16] = [
     ),
 ];
 
-static OTHERS_BOUND: [(&str, &str); 16] = [
+static OTHERS_BOUND: [(&str, &str); 18] = [
     (
         "SELECT a FROM t WHERE a IN (SELECT max(a) FROM u)",
         "(select (first t t) (where (member #0 (select (first u u) (keys) (max #0 int) (items #0) (to col1 int)))) (items #0) (to a int))",
