@@ -1,7 +1,7 @@
 -- What a SELECT shows: a block, or why there is none.
-use Rattle.std.specs.Prelude.{ℕ, ◌≡◌, nat_lt, List, [], ◌∷◌, map, total, length, Option, Some, None, Result, Ok, Err, Contains, if◌then◌else◌, ⊤}
+use Rattle.std.specs.Prelude.{ℕ, nat_lt, List, [], ◌∷◌, map, length, Option, Some, None, if◌then◌else◌}
+use Rattle.std.specs.List.{sum}
 use Rattle.ooc_types.specs.declared.schema.Column.{Column}
-use Rattle.ooc_types.specs.declared.value.Value.{Value}
 use Rattle.sql_expr.specs.declared.fault.ValueFault.{ValueFault}
 use Rattle.bound_tree.specs.declared.select.Cut.{Cut}
 use Rattle.bound_tree.specs.declared.select.BoundSelect.{BoundSelect}
@@ -18,7 +18,7 @@ most_result = 268435456
 
 -- the bytes of the lines of these rows
 abbrev pub lines_length : List Row → ℕ
-lines_length rows = total (map (λ row. length (row_text row)) rows)
+lines_length rows = sum (map (λ row. length (row_text row)) rows)
 
 pub data Shown : Type 0 where
   Shows : (block : Block) → Shown
