@@ -1,2 +1,8 @@
-//! What a script means: the tables that are there, and what a statement shows.
+//! What a script means, statement by statement, and the texts that a run writes.
 #![tactic(auto)]
+
+mod ending;
+mod writing;
+
+pub use ending::{end, end_with};
+pub use writing::write_all;
