@@ -66,6 +66,8 @@ fn check_named<F: Files, K: Sink>(
         × Appends (K.written out.old) (K.written out.new) more
         × IsWritten (Writes check_outcome check_closing (Ok settings.now) held) more result) }
     ensures read_fault { result ≡ Status.ReadFault → Rose (F.faults files.old) (F.faults files.new) }
+    ensures later { F.faults files.old ≤ F.faults files.new }
+    ensures usage { (fault : _) → result ≢ Status.Usage fault }
     ensures kinds { IsOfCheck result }
     ensures cause { HasWriteCause (K.faults out.old) (K.faults out.new) result }
     ensures last { EndsInLine check_closing (K.written out.old) (K.written out.new) result }

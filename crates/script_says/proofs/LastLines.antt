@@ -1,5 +1,5 @@
 -- What ends a run stands last.
-use Rattle.std.proofs.Common.{◌≡◌, ℕ, ◌⊎◌, inl, inr, List, [], ◌++◌, Option, append-nil, subst, sym, ◌∙◌, ap}
+use Rattle.std.proofs.Common.{◌≡◌, ℕ, ◌⊎◌, inl, inr, List, [], ◌++◌, Option, append-nil, refl, subst, sym, ◌∙◌, ap}
 use Rattle.std.specs.Io.KnownBytes.{Appends}
 use Rattle.run_settings.specs.declared.status.Status.{Status}
 use Rattle.run_settings.specs.declared.status.Status.TheVariants.{Done, WriteFault, OutOfMemory}
@@ -30,3 +30,11 @@ last_text closing old mid new text status result closes g e = at e.ends
     at (inl is) =
         let front : e.front ≡ e.all = sym (append-nil e.front) ∙ ap (λ (t : List ℕ). e.front ++ t) (sym is.1) ∙ e.parts in
         inr (g.0, e.front, g.1, subst (λ (t : List ℕ). Closes closing result t) (sym front) (subst (λ (s : Status). Closes closing s e.all) (sym is.0) (which e.which)), Appends-then old mid new g.0 e.front g.2 e.appended)
+
+-- the line of the status
+pub last_line : (closing : List ℕ) (old mid new : Option (List ℕ)) (status result : Status) → Grown old mid → EndsWith mid new (line_of status) status result → EndsInLine closing old new result
+last_line closing old mid new status result g e = last_text closing old mid new (line_of status) status result (inr refl) g e
+
+-- the closing text of a run that is done
+pub last_closing : (closing : List ℕ) (old mid new : Option (List ℕ)) (result : Status) → Grown old mid → EndsWith mid new closing Done result → EndsInLine closing old new result
+last_closing closing old mid new result g e = last_text closing old mid new closing Done result (inl (refl, refl)) g e
