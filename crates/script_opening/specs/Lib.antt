@@ -1,0 +1,4 @@
+pub mod Limits
+pub mod Trees
+pub mod Reading
+pub mod Opened
