@@ -1,0 +1,4 @@
+pub mod Meaning
+pub mod Finding
+pub mod Stands
+pub mod Loading
