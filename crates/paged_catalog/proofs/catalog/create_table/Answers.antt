@@ -1,0 +1,36 @@
+use Rattle.std.proofs.Common.{◌≡◌, ◌++◌, ◌∷◌, [], ap, sym, subst, ◌∙◌, refl, false, length}
+use Rattle.sql_scope.specs.declared.scope.TableColumns.{TableColumns}
+use Rattle.paged_catalog.specs.declared.catalog.TableRows.{TableRows}
+use Rattle.paged_catalog.specs.Finding.{has_table}
+use Rattle.paged_catalog.specs.Meaning.{sets_rows, tables_with}
+use Rattle.paged_catalog.proofs.Meant.{absent_too, with_pushed}
+use Rattle.paged_catalog.proofs.Places.{same_count}
+use Rattle.paged_catalog.proofs.Left.{leaves_created}
+use Rattle.paged_catalog.proofs.catalog.create_table.Goals as goal
+
+pub returns-clause-created : goal.returns-clause-created
+returns-clause-created g c =
+    let t = g.P.Pages.terms in
+    let catalog = c.args.catalog.now in
+    let count = same_count t catalog.page_bytes catalog.tables.items catalog.rows.items c.requires.stands.tables in
+    let one : TableColumns = record { name = c.args.name; columns = c.args.columns } in
+    let more : TableRows g.row.P-Page.Denot = record { sets = c.new.result } in
+    let tables = c.put.ensures ∙ ap (λ z. z ++ one ∷ []) c.reserve.ensures.items in
+    let rows = c.put-2.ensures ∙ ap (λ z. z ++ more ∷ []) c.reserve-2.ensures.items in
+    ap (λ ts. tables_with t ts c.put-2.new.list.items) tables
+    ∙ ap (tables_with t (catalog.tables.items ++ one ∷ [])) rows
+    ∙ with_pushed t catalog.tables.items catalog.rows.items one more count
+    ∙ ap (λ ss. tables_with t catalog.tables.items catalog.rows.items ++ record { name = c.args.name; columns = c.args.columns; rows = sets_rows t ss } ∷ []) c.new.ensures.items
+
+pub returns-clause-leaves : goal.returns-clause-leaves
+returns-clause-leaves g c =
+    let t = g.P.Pages.terms in
+    let catalog = c.args.catalog.now in
+    let count = same_count t catalog.page_bytes catalog.tables.items catalog.rows.items c.requires.stands.tables in
+    let one : TableColumns = record { name = c.args.name; columns = c.args.columns } in
+    let more : TableRows g.row.P-Page.Denot = record { sets = c.new.result } in
+    leaves_created t (g.P.Pages.view c.args.pages.now) catalog _ one more c.requires.stands c.requires.here
+    (absent_too t catalog.tables.items catalog.rows.items c.args.name count c.requires.free)
+    (record { some = c.requires.some; few = c.requires.few; typed = c.requires.typed }) c.new.ensures.items refl
+    (c.put.ensures ∙ ap (λ z. z ++ one ∷ []) c.reserve.ensures.items)
+    (c.put-2.ensures ∙ ap (λ z. z ++ more ∷ []) c.reserve-2.ensures.items)
