@@ -5,3 +5,4 @@ pub mod Paged
 pub mod Left
 pub mod Loaded
 pub mod Reading
+pub mod Counted

@@ -24,9 +24,13 @@ use Rattle.paged_catalog.proofs.Left.{leaves_still, leaves_more}
 
 module _ {Page Pin : Type 0} (t : PoolTerms Page Pin) where
   -- a set that was loaded, behind the others
-  pub meant_added : (meant : Result (List (List Value)) Refusal) (old new : List (RowSet Page)) (one : RowSet Page) → Loads t meant (Ok one) → new ≡ old ++ one ∷ [] → AddsMeant t meant old new (Ok tt)
+  meant_added : (meant : Result (List (List Value)) Refusal) (old new : List (RowSet Page)) (one : RowSet Page) → Loads t meant (Ok one) → new ≡ old ++ one ∷ [] → AddsMeant t meant old new (Ok tt)
   meant_added meant old new one l added =
       (l.0, l.1.0, ap (sets_rows t) added ∙ rows_push t old one ∙ ap (λ rows. sets_rows t old ++ rows) (ap values_of l.1.1 ∙ stored_values l.0))
+
+  pub meant_told : {X : Type 0} (told : Option X) (meant : X → Result (List (List Value)) Refusal) (old new : List (RowSet Page)) (one : RowSet Page) → IfSome told (λ x. Loads t (meant x) (Ok one)) → new ≡ old ++ one ∷ [] → IfSome told (λ x. AddsMeant t (meant x) old new (Ok tt))
+  meant_told None meant old new one l added = tt
+  meant_told (Some x) meant old new one l added = meant_added (meant x) old new one l added
 
   -- a name that is there isn't absent
   pub there_first : (ts : List TableColumns) (rs : List (TableRows Page)) (name : List ℕ) → IsSome (says.table_at (tables_with t ts rs) name) → has_table ts name ≡ false → ⊥

@@ -106,6 +106,12 @@ module _ {Page Pin : Type 0} (t : PoolTerms Page Pin) where
   with_pushed (x ∷ xs) [] c r same = absurd (omega (arith, same))
   with_pushed (x ∷ xs) (y ∷ ys) c r same = ap (λ l. table_of t x y ∷ l) (with_pushed xs ys c r (omega (arith, same)))
 
+  -- a table of no rows more
+  pub created : (ts tables : List TableColumns) (rs rows : List (TableRows Page)) (c : TableColumns) (r : TableRows Page) → length ts ≡ length rs → tables ≡ ts ++ c ∷ [] → rows ≡ rs ++ r ∷ [] → r.sets.items ≡ [] → tables_with t tables rows ≡ says.with_table (tables_with t ts rs) c.name c.columns
+  created ts tables rs rows c r same of_tables of_rows none =
+      ap (λ l. tables_with t l rows) of_tables ∙ ap (tables_with t (ts ++ c ∷ [])) of_rows ∙ with_pushed ts rs c r same
+      ∙ ap (λ (ss : List (RowSet Page)). tables_with t ts rs ++ record { name = c.name; columns = c.columns; rows = sets_rows t ss } ∷ []) none
+
   -- the names and columns alone
   pub schemas_with : (ts : List TableColumns) (rs : List (TableRows Page)) → length ts ≡ length rs → ts ≡ says.schemas_of (tables_with t ts rs)
   schemas_with [] rs same = refl

@@ -2,3 +2,4 @@ pub mod Meaning
 pub mod Finding
 pub mod Stands
 pub mod Loading
+pub mod Counting

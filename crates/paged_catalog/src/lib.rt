@@ -6,9 +6,11 @@
 #![tactic(auto)]
 
 mod catalog;
+mod counting;
 mod finding;
 mod loading;
 mod retiring;
 
 pub use catalog::{Catalog, TableRows, columns, create_table, drop_table, load_table, new_catalog, sets};
+pub use counting::counts;
 pub use retiring::retire_catalog;

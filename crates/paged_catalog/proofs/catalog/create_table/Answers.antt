@@ -1,9 +1,7 @@
 use Rattle.std.proofs.Common.{◌≡◌, ◌++◌, ◌∷◌, [], ap, sym, subst, ◌∙◌, refl, false, length}
 use Rattle.sql_scope.specs.declared.scope.TableColumns.{TableColumns}
 use Rattle.paged_catalog.specs.declared.catalog.TableRows.{TableRows}
-use Rattle.paged_catalog.specs.Finding.{has_table}
-use Rattle.paged_catalog.specs.Meaning.{sets_rows, tables_with}
-use Rattle.paged_catalog.proofs.Meant.{absent_too, with_pushed}
+use Rattle.paged_catalog.proofs.Meant.{absent_too, created}
 use Rattle.paged_catalog.proofs.Places.{same_count}
 use Rattle.paged_catalog.proofs.Left.{leaves_created}
 use Rattle.paged_catalog.proofs.catalog.create_table.Goals as goal
@@ -17,10 +15,7 @@ returns-clause-created g c =
     let more : TableRows g.row.P-Page.Denot = record { sets = c.new.result } in
     let tables = c.put.ensures ∙ ap (λ z. z ++ one ∷ []) c.reserve.ensures.items in
     let rows = c.put-2.ensures ∙ ap (λ z. z ++ more ∷ []) c.reserve-2.ensures.items in
-    ap (λ ts. tables_with t ts c.put-2.new.list.items) tables
-    ∙ ap (tables_with t (catalog.tables.items ++ one ∷ [])) rows
-    ∙ with_pushed t catalog.tables.items catalog.rows.items one more count
-    ∙ ap (λ ss. tables_with t catalog.tables.items catalog.rows.items ++ record { name = c.args.name; columns = c.args.columns; rows = sets_rows t ss } ∷ []) c.new.ensures.items
+    created t catalog.tables.items c.put.new.list.items catalog.rows.items c.put-2.new.list.items one more count tables rows c.new.ensures.items
 
 pub returns-clause-leaves : goal.returns-clause-leaves
 returns-clause-leaves g c =
