@@ -26,7 +26,7 @@ module _ {Page Pin : Type 0} (t : PoolTerms Page Pin) where
   -- a set that was loaded, behind the others
   meant_added : (meant : Result (List (List Value)) Refusal) (old new : List (RowSet Page)) (one : RowSet Page) → Loads t meant (Ok one) → new ≡ old ++ one ∷ [] → AddsMeant t meant old new (Ok tt)
   meant_added meant old new one l added =
-      (l.0, l.1.0, ap (sets_rows t) added ∙ rows_push t old one ∙ ap (λ rows. sets_rows t old ++ rows) (ap values_of l.1.1 ∙ stored_values l.0))
+      (l.0, l.1, ap (sets_rows t) added ∙ rows_push t old one ∙ ap (λ rows. sets_rows t old ++ rows) (ap values_of l.2 ∙ stored_values l.0))
 
   pub meant_told : {X : Type 0} (told : Option X) (meant : X → Result (List (List Value)) Refusal) (old new : List (RowSet Page)) (one : RowSet Page) → IfSome told (λ x. Loads t (meant x) (Ok one)) → new ≡ old ++ one ∷ [] → IfSome told (λ x. AddsMeant t (meant x) old new (Ok tt))
   meant_told None meant old new one l added = tt
@@ -42,7 +42,7 @@ module _ {Page Pin : Type 0} (t : PoolTerms Page Pin) where
     goes_into meant (Err load.Read) h = tt
     goes_into meant (Err (load.Pool fault)) h = tt
     goes_into meant (Err load.OutOfMemory) h = tt
-    goes_into meant (Ok u) h = (h.0, h.1.0, set_more t ts rs name place r v h.0 first within is h.1.1)
+    goes_into meant (Ok u) h = (h.0, h.1, set_more t ts rs name place r v h.0 first within is h.2)
 
     pub meant_into : {X : Type 0} (told : Option X) (meant : X → List Column → Result (List (List Value)) Refusal) (result : Result (Unit {0}) LoadFault)
         → IfSome told (λ x. AddsMeant t (meant x c.columns) r.sets.items v.sets.items result)

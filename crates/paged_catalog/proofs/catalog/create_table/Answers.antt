@@ -13,8 +13,8 @@ returns-clause-created g c =
     let count = same_count t catalog.page_bytes catalog.tables.items catalog.rows.items c.requires.stands.tables in
     let one : TableColumns = record { name = c.args.name; columns = c.args.columns } in
     let more : TableRows g.row.P-Page.Denot = record { sets = c.new.result } in
-    let tables = c.put.ensures ∙ ap (λ z. z ++ one ∷ []) c.reserve.ensures.items in
-    let rows = c.put-2.ensures ∙ ap (λ z. z ++ more ∷ []) c.reserve-2.ensures.items in
+    let tables : c.put.new.list.items ≡ catalog.tables.items ++ one ∷ [] = c.put.ensures ∙ ap (λ z. z ++ one ∷ []) c.reserve.ensures.items in
+    let rows : c.put-2.new.list.items ≡ catalog.rows.items ++ more ∷ [] = c.put-2.ensures ∙ ap (λ z. z ++ more ∷ []) c.reserve-2.ensures.items in
     created t catalog.tables.items c.put.new.list.items catalog.rows.items c.put-2.new.list.items one more count tables rows c.new.ensures.items
 
 pub returns-clause-leaves : goal.returns-clause-leaves
