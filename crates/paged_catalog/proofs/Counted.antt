@@ -15,33 +15,7 @@ use Rattle.paged_catalog.specs.Meaning.{values_of, sets_rows, table_of, tables_w
 use Rattle.paged_catalog.specs.Counting.{count_of, counts_with}
 use Rattle.paged_catalog.specs.Stands.{AllFormed}
 
-length_map : {A B : Type 0} (f : A → B) (xs : List A) → length (map f xs) ≡ length xs
-length_map f [] = refl
-length_map f (x ∷ xs) = ap suc (length_map f xs)
-
-length_both : {A : Type 0} (xs ys : List A) → length (xs ++ ys) ≡ length xs + length ys
-length_both [] ys = refl
-length_both (x ∷ xs) ys = let i = length_both xs ys in omega (arith, i)
-
--- sums that stop at a number
-stops : (a b c most : ℕ) → min (min (a + b) most + c) most ≡ min (a + b + c) most
-stops a b c most = omega arith
-
 module _ {Page Pin : Type 0} (t : PoolTerms Page Pin) where
-  set_length : (set : RowSet Page) → set.rows ≡ length (set_cells t set) → length (values_of (set_rows t set)) ≡ set.rows
-  set_length set counted = length_map (λ (row : SetRow). row.values) (set_rows t set) ∙ length_map (row_as set.kinds) (set_cells t set) ∙ sym counted
-
-  -- one set more
-  pub counts_set : (page_bytes so_far all most now : ℕ) (left sets : List (RowSet Page)) (set : RowSet Page) → AllFormed t page_bytes left → left ≡ set ∷ sets → min (so_far + length (sets_rows t left)) most ≡ all → now ≡ min (so_far + set.rows) most → min (now + length (sets_rows t sets)) most ≡ all
-  counts_set page_bytes so_far all most now left sets set formed next total added =
-      let first = (subst (AllFormed t page_bytes) next formed).0.0 in
-      let n = set_length set first.counted in
-      let whole : length (sets_rows t left) ≡ set.rows + length (sets_rows t sets) = ap (λ ss. length (sets_rows t ss)) next ∙ length_both (values_of (set_rows t set)) (sets_rows t sets) ∙ ap (λ k. k + length (sets_rows t sets)) n in
-      ap (λ k. min (k + length (sets_rows t sets)) most) added
-      ∙ stops so_far set.rows (length (sets_rows t sets)) most
-      ∙ ap (λ k. min k most) (omega (arith, whole))
-      ∙ total
-
   -- no set more
   pub counts_end : (so_far all most : ℕ) (left : List (RowSet Page)) → left ≡ [] → min (so_far + length (sets_rows t left)) most ≡ all → so_far ≤ most → so_far ≡ all
   counts_end so_far all most left none total few =
@@ -78,11 +52,15 @@ module _ {Page Pin : Type 0} (t : PoolTerms Page Pin) where
       ∙ ap (λ z. old ++ z) (sym (counts_more ts rs i x y h k of_table of_rows))
       ∙ so_far
 
+  no_rows : (ts : List TableColumns) → counts_with t ts [] ≡ []
+  no_rows [] = refl
+  no_rows (c ∷ cs) = refl
+
   nothing_left : (ts : List TableColumns) (rs : List (TableRows Page)) (i : ℕ) → length ts ≤ i → counts_with t (drop i ts) (drop i rs) ≡ []
   nothing_left [] rs zero h = refl
   nothing_left [] rs (suc i) h = refl
   nothing_left (c ∷ cs) rs zero h = absurd (omega (arith, h))
-  nothing_left (c ∷ cs) [] (suc i) h = nothing_left cs [] i (omega (arith, h))
+  nothing_left (c ∷ cs) [] (suc i) h = no_rows (drop i cs)
   nothing_left (c ∷ cs) (r ∷ rs) (suc i) h = nothing_left cs rs i (omega (arith, h))
 
   pub counted_all : (ts : List TableColumns) (rs : List (TableRows Page)) (i : ℕ) (made : List TableCount) → length ts ≤ i → made ++ counts_with t (drop i ts) (drop i rs) ≡ counts_with t ts rs → (name : List ℕ) → counts_in made name ≡ says.counts_of (tables_with t ts rs) name

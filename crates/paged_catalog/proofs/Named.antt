@@ -7,6 +7,10 @@ use Rattle.std.proofs.lemmas.Slice.Eq.{bytes_eq-Decides}
 use Rattle.sql_scope.specs.declared.scope.TableColumns.{TableColumns}
 use Rattle.paged_catalog.specs.Finding.{has_table, IsFirst, NamesDiffer}
 
+-- an item behind those of a list that room was made in
+pub pushed : {A : Type 0} (old mid new : List A) (x : A) → mid ≡ old → new ≡ mid ++ x ∷ [] → new ≡ old ++ x ∷ []
+pushed old mid new x same added = added ∙ ap (λ xs. xs ++ x ∷ []) same
+
 same_bytes : (xs : List ℕ) → bytes_eq xs xs ≡ true
 same_bytes xs = (bytes_eq-Decides xs xs).1 refl
 

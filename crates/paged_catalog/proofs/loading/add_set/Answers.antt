@@ -2,6 +2,7 @@ use Rattle.std.proofs.Common.{◌≡◌, ◌++◌, ◌∷◌, [], ap, ◌∙◌}
 use Rattle.std.specs.FinMap.{get}
 use Rattle.row_image.specs.Rules.{text_limit}
 use Rattle.csv_tables.specs.Loading.{named_rows}
+use Rattle.paged_catalog.proofs.Named.{pushed}
 use Rattle.paged_catalog.proofs.Loaded.{meant_told}
 use Rattle.paged_catalog.proofs.loading.add_set.Goals as goal
 
@@ -11,7 +12,7 @@ returns-in-Ok-load_csv-clause-adds g c =
     let known = c.in-Ok-load_csv.ensures in
     record {
       set = set;
-      sets = c.put.ensures ∙ ap (λ z. z ++ set ∷ []) c.reserve.ensures.items;
+      sets = pushed c.args.rows.now.sets.items c.reserve.new.self.items c.put.new.list.items set c.reserve.ensures.items c.put.ensures;
       is = record {
         formed = known.formed;
         page_bytes_are = known.here.page_bytes ∙ known.changes.page_bytes;
@@ -26,4 +27,4 @@ pub returns-in-Ok-load_csv-clause-loads : goal.returns-in-Ok-load_csv-clause-loa
 returns-in-Ok-load_csv-clause-loads g c =
     let set = c.in-Ok-load_csv.set in
     meant_told g.P.Pages.terms (g.F.Files.holds c.args.files.now) (λ held. named_rows c.args.columns.now c.args.options.now (text_limit (g.P.Pages.view c.args.pages.now).page_bytes) (get held c.args.file.now))
-    c.args.rows.now.sets.items c.put.new.list.items set c.in-Ok-load_csv.ensures.loads (c.put.ensures ∙ ap (λ z. z ++ set ∷ []) c.reserve.ensures.items)
+    c.args.rows.now.sets.items c.put.new.list.items set c.in-Ok-load_csv.ensures.loads (pushed c.args.rows.now.sets.items c.reserve.new.self.items c.put.new.list.items set c.reserve.ensures.items c.put.ensures)
