@@ -1,6 +1,6 @@
 -- What tables with rows in their places mean: by a name, with one changed, added or taken away.
 use Rattle.std.proofs.Common.{◌≡◌, ℕ, suc, zero, ◌+◌, ◌<◌, Bool, true, false, cond, List, [], ◌∷◌, ◌++◌, map, length, get_or, set, Option, None, Some, refl, sym, ap, ◌∙◌, subst, arith, append_assoc, append-nil}
-use Rattle.std.specs.Prelude.{IsSome}
+use Rattle.std.specs.Prelude.{is_some}
 use Rattle.std.specs.Str.{bytes_eq}
 use Rattle.std.specs.List.{remove}
 use Rattle.std.proofs.lemmas.Bool.{false≢true}
@@ -23,6 +23,10 @@ pub stored_values : (rows : List (List Value)) → values_of (stored rows) ≡ r
 stored_values [] = refl
 stored_values (row ∷ rows) = ap (λ rs. row ∷ rs) (stored_values rows)
 
+map_some : {A : Type 0} (b : Bool) (x : A) (o : Option A) → is_some (cond b (Some x) o) ≡ cond b true (is_some o)
+map_some true x o = refl
+map_some false x o = refl
+
 module _ {Page Pin : Type 0} (t : PoolTerms Page Pin) where
   -- one set more
   pub rows_push : (sets : List (RowSet Page)) (set : RowSet Page) → sets_rows t (sets ++ set ∷ []) ≡ sets_rows t sets ++ values_of (set_rows t set)
@@ -37,16 +41,12 @@ module _ {Page Pin : Type 0} (t : PoolTerms Page Pin) where
       let apart = neither (bytes_eq c.name name) (has_table cs name) none in
       ap (λ b. cond b (Some (table_of t c r)) (says.table_at (tables_with t cs rs) name)) apart.0 ∙ absent cs rs name apart.1
 
-  only_none : (b : Bool) (x : says.Table) (o : Option says.Table) → cond b (Some x) o ≡ None → (b ≡ false) × (o ≡ None)
-  only_none true x o h = absurd (none-some x (sym h))
-  only_none false x o h = (refl, h)
-
-  pub absent_too : (ts : List TableColumns) (rs : List (TableRows Page)) (name : List ℕ) → length ts ≡ length rs → says.table_at (tables_with t ts rs) name ≡ None → has_table ts name ≡ false
-  absent_too [] rs name same none = refl
-  absent_too (c ∷ cs) [] name same none = absurd (omega (arith, same))
-  absent_too (c ∷ cs) (r ∷ rs) name same none =
-      let apart = only_none (bytes_eq c.name name) (table_of t c r) (says.table_at (tables_with t cs rs) name) none in
-      ap (λ b. cond b true (has_table cs name)) apart.0 ∙ absent_too cs rs name (omega (arith, same)) apart.1
+  -- whether there is one
+  pub there : (ts : List TableColumns) (rs : List (TableRows Page)) (name : List ℕ) → length ts ≡ length rs → is_some (says.table_at (tables_with t ts rs) name) ≡ has_table ts name
+  there [] rs name same = refl
+  there (c ∷ cs) [] name same = absurd (omega (arith, same))
+  there (c ∷ cs) (r ∷ rs) name same =
+      map_some (bytes_eq c.name name) (table_of t c r) (says.table_at (tables_with t cs rs) name) ∙ ap (cond (bytes_eq c.name name) true) (there cs rs name (omega (arith, same)))
 
   -- the first table of a name
   pub at_first : (ts : List TableColumns) (rs : List (TableRows Page)) (name : List ℕ) (i : ℕ) (c : TableColumns) (r : TableRows Page) → IsFirst ts name i → i < length rs → c ≡ get_or ts i c → r ≡ get_or rs i r

@@ -1,5 +1,6 @@
 -- Tables by their names: where the first stands, and that names differ.
-use Rattle.std.proofs.Common.{◌≡◌, ℕ, suc, zero, ◌+◌, ◌<◌, ◌≤◌, Bool, true, false, cond, List, [], ◌∷◌, ◌++◌, length, take, drop, get_or, refl, sym, ap, ◌∙◌, subst, arith, ◌⊎◌, ⊎_elim}
+use Rattle.std.proofs.Common.{◌≡◌, ℕ, suc, zero, ◌+◌, ◌<◌, ◌≤◌, Bool, true, false, cond, List, [], ◌∷◌, ◌++◌, length, take, drop, get_or, refl, sym, ap, ◌∙◌, subst, arith, ◌⊎◌, ⊎_elim, Option, None, Some}
+use Rattle.std.specs.Prelude.{is_some, MatchOption}
 use Rattle.std.specs.Str.{bytes_eq}
 use Rattle.std.specs.List.{remove}
 use Rattle.std.proofs.lemmas.Bool.{cases_Bool, false≢true}
@@ -26,6 +27,16 @@ other_way xs ys h = ⊎_elim
 pub neither : (a b : Bool) → cond a true b ≡ false → (a ≡ false) × (b ≡ false)
 neither true b h = absurd (false≢true (sym h))
 neither false b h = (refl, h)
+
+-- the first of a name is there
+pub has_first : (ts : List TableColumns) (name : List ℕ) (i : ℕ) → IsFirst ts name i → has_table ts name ≡ true
+has_first [] name i f = absurd f
+has_first (t ∷ ts) name zero f = ap (λ b. cond b true (has_table ts name)) f
+has_first (t ∷ ts) name (suc i) f = ap (λ b. cond b true (has_table ts name)) f.0 ∙ has_first ts name i f.1
+
+pub has_placed : (ts : List TableColumns) (name : List ℕ) (place : Option ℕ) → MatchOption place (has_table ts name ≡ false) (IsFirst ts name) → has_table ts name ≡ is_some place
+has_placed ts name None h = h
+has_placed ts name (Some i) h = has_first ts name i h
 
 -- one table more that has another name
 pub passed : (ts : List TableColumns) (name : List ℕ) (i : ℕ) (at : TableColumns) → i < length ts → at ≡ get_or ts i at → has_table (take i ts) name ≡ false → bytes_eq at.name name ≡ false → has_table (take (i + 1) ts) name ≡ false

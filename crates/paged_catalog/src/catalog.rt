@@ -1,5 +1,5 @@
 //! The tables that are there.
-ghost use Rattle.std.specs.Prelude.{◌≡◌, ◌≤◌, None, true, IfErr, IfSome, IsSome, IsSomeAnd, MatchOption, OnOk, OnErr, length};
+ghost use Rattle.std.specs.Prelude.{◌≡◌, ◌≤◌, None, true, IfErr, IfSome, IsNone, IsSome, IsSomeAnd, MatchOption, OnOk, OnErr, is_some, length};
 ghost use Rattle.std.specs.FinMap.{get};
 ghost use Rattle.row_image.specs.Rules.{text_limit};
 ghost use Rattle.csv_records.specs.Table.{IsDelimiter};
@@ -58,6 +58,15 @@ pub fn columns<'a, P: Pages>(pages: &P, catalog: &'a Catalog<P::Page>) -> &'a [T
     catalog.tables.as_slice()
 }
 
+/// Whether there is a table of that name, in small letters.
+pub fn has_table<P: Pages>(pages: &P, catalog: &Catalog<P::Page>, name: &[u8]) -> bool
+    requires stands { Stands P.terms catalog.now }
+    ensures { result ≡ is_some (table_at (catalog_of P.terms catalog.now) name.now) }
+{
+    let _ = pages;
+    place_of(catalog.tables.as_slice(), name).is_some()
+}
+
 /// The sets of the table of that name, in small letters.
 pub fn sets<'a, P: Pages>(
     pages: &P,
@@ -86,7 +95,7 @@ pub fn create_table<P: Pages>(
 ) -> Result<(), OutOfMemory>
     requires stands { Stands P.terms catalog.old }
     requires here { AreHere (P.view pages.now) catalog.old }
-    requires free { table_at (catalog_of P.terms catalog.old) name ≡ None }
+    requires free { IsNone (table_at (catalog_of P.terms catalog.old) name) }
     requires some { 1 ≤ length columns }
     requires few { length columns ≤ 64 }
     requires typed { are_typed columns ≡ true }

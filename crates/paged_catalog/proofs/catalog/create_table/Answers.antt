@@ -2,7 +2,7 @@ use Rattle.std.proofs.Common.{◌≡◌, ◌++◌, ◌∷◌, [], ap, sym, subst
 use Rattle.sql_scope.specs.declared.scope.TableColumns.{TableColumns}
 use Rattle.paged_catalog.specs.declared.catalog.TableRows.{TableRows}
 use Rattle.paged_catalog.proofs.Named.{pushed}
-use Rattle.paged_catalog.proofs.Meant.{absent_too, created}
+use Rattle.paged_catalog.proofs.Meant.{there, created}
 use Rattle.paged_catalog.proofs.Places.{same_count}
 use Rattle.paged_catalog.proofs.Left.{leaves_created}
 use Rattle.paged_catalog.proofs.catalog.create_table.Goals as goal
@@ -26,7 +26,7 @@ returns-clause-leaves g c =
     let one : TableColumns = record { name = c.args.name; columns = c.args.columns } in
     let more : TableRows g.row.P-Page.Denot = record { sets = c.new.result } in
     leaves_created t (g.P.Pages.view c.args.pages.now) catalog _ one more c.requires.stands c.requires.here
-    (absent_too t catalog.tables.items catalog.rows.items c.args.name count c.requires.free)
+    (sym (there t catalog.tables.items catalog.rows.items c.args.name count) ∙ c.requires.free)
     (record { some = c.requires.some; few = c.requires.few; typed = c.requires.typed }) c.new.ensures.items refl
     (pushed catalog.tables.items c.reserve.new.self.items c.put.new.list.items one c.reserve.ensures.items c.put.ensures)
     (pushed catalog.rows.items c.reserve-2.new.self.items c.put-2.new.list.items more c.reserve-2.ensures.items c.put-2.ensures)
