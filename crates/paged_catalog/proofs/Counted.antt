@@ -1,19 +1,15 @@
 -- Counts of rows, set after set and table after table.
-use Rattle.std.proofs.Common.{◌≡◌, ℕ, suc, zero, ◌+◌, ◌-◌, ◌<◌, ◌≤◌, ◌^◌, min, Option, Some, Bool, true, false, cond, List, [], ◌∷◌, ◌++◌, map, length, drop, get_or, refl, sym, ap, ◌∙◌, subst, arith, append_assoc, append-nil}
+use Rattle.std.proofs.Common.{◌≡◌, ℕ, suc, zero, ◌+◌, ◌<◌, ◌≤◌, min, Option, Some, Bool, true, false, cond, List, [], ◌∷◌, ◌++◌, length, drop, get_or, refl, sym, ap, ◌∙◌, arith, append_assoc, append-nil}
 use Rattle.std.specs.Str.{bytes_eq}
 use Rattle.sql_scope.specs.declared.scope.TableColumns.{TableColumns}
 use Rattle.page_body.specs.View.{PoolTerms}
-use Rattle.row_image.specs.Texts.{ValueRow}
-use Rattle.row_sets.specs.SetRows.{SetRow, row_as}
-use Rattle.row_sets.specs.Sets.{set_rows, set_cells}
 use Rattle.row_sets.specs.declared.row_set.RowSet.{RowSet}
 use Rattle.sql_plan.specs.declared.counts.TableCount.{TableCount}
 use Rattle.sql_plan.specs.Counted.{counts_in}
 use Rattle.script_says.specs.Catalog as says
 use Rattle.paged_catalog.specs.declared.catalog.TableRows.{TableRows}
-use Rattle.paged_catalog.specs.Meaning.{values_of, sets_rows, table_of, tables_with}
+use Rattle.paged_catalog.specs.Meaning.{sets_rows, table_of, tables_with}
 use Rattle.paged_catalog.specs.Counting.{count_of, counts_with}
-use Rattle.paged_catalog.specs.Stands.{AllFormed}
 
 module _ {Page Pin : Type 0} (t : PoolTerms Page Pin) where
   -- no set more

@@ -1,15 +1,12 @@
 -- What a call leaves of a catalog as a whole, from what became of one table.
-use Rattle.std.proofs.Common.{◌≡◌, ℕ, ◌+◌, ◌<◌, ◌≤◌, false, List, [], ◌∷◌, ◌++◌, length, get_or, set, refl, sym, ap, ◌∙◌, subst, arith}
-use Rattle.std.specs.Prelude.{IsTrue}
+use Rattle.std.proofs.Common.{◌≡◌, ℕ, ◌+◌, ◌<◌, ◌≤◌, false, [], ◌∷◌, ◌++◌, length, get_or, set, refl, sym, ap, ◌∙◌, subst, arith}
 use Rattle.std.specs.List.{remove}
-use Rattle.ooc_types.specs.declared.schema.Column.{Column}
 use Rattle.sql_scope.specs.declared.scope.TableColumns.{TableColumns}
 use Rattle.page_body.specs.View.{PoolTerms, PoolView}
-use Rattle.page_body.specs.PageLists.{ids_of, Differ, AllLive}
-use Rattle.row_sets.specs.Holds.{Holding, nothing, both, pages_only, Unpinned, IsRetirable}
+use Rattle.page_body.specs.PageLists.{ids_of, AllLive}
+use Rattle.row_sets.specs.Holds.{Holding, nothing, both, pages_only, IsRetirable}
 use Rattle.row_sets.specs.Changes.{Changes}
-use Rattle.row_sets.specs.Sets.{set_ids, set_pages, set_holding}
-use Rattle.row_sets.specs.declared.row_set.RowSet.{RowSet}
+use Rattle.row_sets.specs.Sets.{set_ids, set_holding}
 use Rattle.row_sets.proofs.Changed.{live_on, differ_on, changes_none, changes_as, changes_beside}
 use Rattle.paged_catalog.specs.declared.catalog.TableRows.{TableRows}
 use Rattle.paged_catalog.specs.declared.catalog.Catalog.{Catalog}

@@ -1,5 +1,5 @@
 -- What a load makes of the tables, from what it makes of the sets of one.
-use Rattle.std.proofs.Common.{◌≡◌, ℕ, ◌+◌, ◌<◌, ◌≤◌, false, List, [], ◌∷◌, ◌++◌, length, get_or, set, Option, None, Some, refl, sym, ap, ◌∙◌, subst, arith}
+use Rattle.std.proofs.Common.{◌≡◌, ℕ, ◌<◌, false, List, [], ◌∷◌, ◌++◌, length, get_or, set, Option, None, Some, sym, ap, ◌∙◌, subst}
 use Rattle.std.specs.Prelude.{Result, Ok, Err, IfSome, IsSome, is_some, OnOk, OnErr}
 use Rattle.std.proofs.lemmas.Bool.{false≢true}
 use Rattle.ooc_types.specs.declared.value.Value.{Value}
@@ -15,7 +15,7 @@ use Rattle.csv_tables.specs.Loading.{Loads}
 use Rattle.script_says.specs.Catalog as says
 use Rattle.paged_catalog.specs.declared.catalog.TableRows.{TableRows}
 use Rattle.paged_catalog.specs.declared.catalog.Catalog.{Catalog}
-use Rattle.paged_catalog.specs.Meaning.{values_of, sets_rows, table_of, tables_with, catalog_of}
+use Rattle.paged_catalog.specs.Meaning.{values_of, sets_rows, tables_with}
 use Rattle.paged_catalog.specs.Finding.{has_table, IsFirst}
 use Rattle.paged_catalog.specs.Stands.{Stands, AreHere, Leaves}
 use Rattle.paged_catalog.specs.Loading.{AddsRows, LoadsInto, AddsSet, AddsMeant}

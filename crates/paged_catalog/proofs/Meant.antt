@@ -1,14 +1,11 @@
 -- What tables with rows in their places mean: by a name, with one changed, added or taken away.
-use Rattle.std.proofs.Common.{◌≡◌, ℕ, suc, zero, ◌+◌, ◌<◌, Bool, true, false, cond, List, [], ◌∷◌, ◌++◌, map, length, get_or, set, Option, None, Some, refl, sym, ap, ◌∙◌, subst, arith, append_assoc, append-nil}
+use Rattle.std.proofs.Common.{◌≡◌, ℕ, suc, zero, ◌<◌, Bool, true, false, cond, List, [], ◌∷◌, ◌++◌, length, get_or, set, Option, None, Some, refl, sym, ap, ◌∙◌, arith, append_assoc, append-nil}
 use Rattle.std.specs.Prelude.{is_some}
 use Rattle.std.specs.Str.{bytes_eq}
 use Rattle.std.specs.List.{remove}
-use Rattle.std.proofs.lemmas.Bool.{false≢true}
-use Rattle.std.proofs.lemmas.Option.{none-some}
 use Rattle.ooc_types.specs.declared.value.Value.{Value}
 use Rattle.sql_scope.specs.declared.scope.TableColumns.{TableColumns}
 use Rattle.page_body.specs.View.{PoolTerms}
-use Rattle.row_sets.specs.SetRows.{SetRow}
 use Rattle.row_sets.specs.Sets.{set_rows}
 use Rattle.row_sets.specs.declared.row_set.RowSet.{RowSet}
 use Rattle.csv_tables.specs.Stored.{stored}

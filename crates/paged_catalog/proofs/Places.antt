@@ -1,5 +1,5 @@
 -- Tables beside their rows, place by place: with one changed, added or taken away.
-use Rattle.std.proofs.Common.{◌≡◌, ℕ, suc, zero, ◌+◌, ◌<◌, ◌≤◌, List, [], ◌∷◌, ◌++◌, length, get_or, set, refl, sym, ap, ◌∙◌, subst, arith}
+use Rattle.std.proofs.Common.{◌≡◌, ℕ, suc, zero, ◌<◌, List, [], ◌∷◌, ◌++◌, length, get_or, set, refl, sym, ap, subst, arith}
 use Rattle.std.specs.List.{remove}
 use Rattle.ooc_types.specs.declared.schema.Column.{Column}
 use Rattle.sql_scope.specs.declared.scope.TableColumns.{TableColumns}

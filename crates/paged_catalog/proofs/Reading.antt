@@ -1,10 +1,9 @@
 -- The sets of a table as its readers ask them.
-use Rattle.std.proofs.Common.{◌≡◌, ℕ, suc, zero, ◌+◌, ◌<◌, ◌≤◌, List, [], ◌∷◌, ◌++◌, length, get_or, Option, refl, sym, ap, ◌∙◌, subst, arith}
+use Rattle.std.proofs.Common.{◌≡◌, ℕ, suc, zero, ◌+◌, ◌<◌, ◌≤◌, List, [], ◌∷◌, length, get_or, sym, ap, ◌∙◌, subst, arith}
 use Rattle.std.specs.Prelude.{IsSomeAnd}
 use Rattle.std.specs.List.{All}
 use Rattle.ooc_types.specs.declared.schema.Column.{Column}
 use Rattle.row_image.specs.Rules.{text_limit}
-use Rattle.sql_scope.specs.declared.scope.TableColumns.{TableColumns}
 use Rattle.page_body.specs.View.{PoolTerms, PoolView}
 use Rattle.page_body.specs.PageLists.{ids_of, AllLive}
 use Rattle.row_sets.specs.Sets.{set_pages, row_pages_in}
@@ -14,7 +13,7 @@ use Rattle.csv_tables.specs.Loading.{IsTable}
 use Rattle.script_says.specs.Catalog as says
 use Rattle.paged_catalog.specs.declared.catalog.TableRows.{TableRows}
 use Rattle.paged_catalog.specs.declared.catalog.Catalog.{Catalog}
-use Rattle.paged_catalog.specs.Meaning.{sets_rows, sets_pages, table_of, tables_with, catalog_of}
+use Rattle.paged_catalog.specs.Meaning.{sets_rows, sets_pages, catalog_of}
 use Rattle.paged_catalog.specs.Finding.{IsFirst}
 use Rattle.paged_catalog.specs.Stands.{AllSetsOf, Stands, AreHere, IsReadable, AreSetsOf}
 use Rattle.paged_catalog.proofs.Named.{found, first_within}

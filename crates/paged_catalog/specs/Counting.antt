@@ -1,5 +1,5 @@
 -- How many rows tables have, each in its place.
-use Rattle.std.specs.Prelude.{ℕ, List, [], ◌∷◌, length, min}
+use Rattle.std.specs.Prelude.{List, [], ◌∷◌, length, min}
 use Rattle.sql_scope.specs.declared.scope.TableColumns.{TableColumns}
 use Rattle.page_body.specs.View.{PoolTerms}
 use Rattle.sql_plan.specs.declared.counts.TableCount.{TableCount}

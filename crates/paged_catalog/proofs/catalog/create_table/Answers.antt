@@ -1,4 +1,4 @@
-use Rattle.std.proofs.Common.{◌≡◌, ◌++◌, ◌∷◌, [], ap, sym, subst, ◌∙◌, refl, false, length}
+use Rattle.std.proofs.Common.{◌≡◌, ◌++◌, ◌∷◌, [], sym, ◌∙◌, refl}
 use Rattle.sql_scope.specs.declared.scope.TableColumns.{TableColumns}
 use Rattle.paged_catalog.specs.declared.catalog.TableRows.{TableRows}
 use Rattle.paged_catalog.proofs.Named.{pushed}

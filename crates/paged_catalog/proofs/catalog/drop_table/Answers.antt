@@ -1,4 +1,4 @@
-use Rattle.std.proofs.Common.{◌≡◌, ◌<◌, ap, sym, subst, ◌∙◌, refl, false, arith, length}
+use Rattle.std.proofs.Common.{◌≡◌, ◌<◌, ap, subst, ◌∙◌, refl, false, arith, length}
 use Rattle.std.specs.List.{remove}
 use Rattle.paged_catalog.specs.Finding.{has_table, IsFirst}
 use Rattle.paged_catalog.specs.Meaning.{tables_with}

@@ -1,4 +1,4 @@
-use Rattle.std.proofs.Common.{◌≡◌, ◌<◌, ap, sym, subst, ◌∙◌, false, arith, length}
+use Rattle.std.proofs.Common.{◌≡◌, subst, false, arith}
 use Rattle.paged_catalog.specs.Finding.{has_table, IsFirst}
 use Rattle.paged_catalog.proofs.Named.{first_within}
 use Rattle.paged_catalog.proofs.Meant.{absent}

@@ -1,4 +1,4 @@
-use Rattle.std.proofs.Common.{◌≡◌, ◌++◌, [], ◌∷◌, ap, subst, ◌∙◌, sym}
+use Rattle.std.proofs.Common.{◌≡◌, ◌++◌, ap, subst, ◌∙◌, sym}
 use Rattle.page_body.specs.PageLists.{ids_of}
 use Rattle.row_sets.specs.Holds.{pages_only, IsRetirable}
 use Rattle.row_sets.specs.Changes.{Changes}
