@@ -31,9 +31,9 @@ leaves_same t a old new stands here length_same tables rows = record {
     live = subst (λ rs. AllLive a (rows_pages rs)) (sym rows) here.live;
   };
   changes = changes_as t (catalog_holding t old) (catalog_holding t old) (catalog_holding t old) (catalog_holding t new) a a
-    (record { pages = λ y. refl; pins = λ y. refl; opens = λ y. refl; held = refl })
-    (record { pages = λ y. sym (ap (λ rs. ids_of t (rows_pages rs) y) rows); pins = λ y. refl; opens = λ y. refl; held = refl })
-    (changes_none t (catalog_holding t old) a);
+      (record { pages = λ y. refl; pins = λ y. refl; opens = λ y. refl; held = refl })
+      (record { pages = λ y. sym (ap (λ rs. ids_of t (rows_pages rs) y) rows); pins = λ y. refl; opens = λ y. refl; held = refl })
+      (changes_none t (catalog_holding t old) a);
 }
 
 -- a table of no rows was added behind the others
@@ -45,7 +45,7 @@ leaves_created t a old new c r stands here free are none length_same tables rows
       stands = record {
         names = subst NamesDiffer (sym tables) (names_pushed old.tables.items c free stands.names);
         tables = subst (λ n. AllTables t n new.tables.items new.rows.items) (sym length_same) (subst (λ ts. AllTables t old.page_bytes ts new.rows.items) (sym tables) (subst (AllTables t old.page_bytes (old.tables.items ++ c ∷ [])) (sym rows)
-          (table_pushed t old.page_bytes old.tables.items old.rows.items c r stands.tables (record { columns = are; sets = subst (AllSetsOf t old.page_bytes c.columns) (sym none) tt }))));
+            (table_pushed t old.page_bytes old.tables.items old.rows.items c r stands.tables (record { columns = are; sets = subst (AllSetsOf t old.page_bytes c.columns) (sym none) tt }))));
         differ = λ ends y. let e = ap (λ ps. ids_of t ps y) pages in let m = stands.differ ends y in omega (arith, e, m);
       };
       here = record {
@@ -53,9 +53,9 @@ leaves_created t a old new c r stands here free are none length_same tables rows
         live = subst (AllLive a) (sym pages) here.live;
       };
       changes = changes_as t (catalog_holding t old) (catalog_holding t old) (catalog_holding t old) (catalog_holding t new) a a
-        (record { pages = λ y. refl; pins = λ y. refl; opens = λ y. refl; held = refl })
-        (record { pages = λ y. sym (ap (λ ps. ids_of t ps y) pages); pins = λ y. refl; opens = λ y. refl; held = refl })
-        (changes_none t (catalog_holding t old) a);
+          (record { pages = λ y. refl; pins = λ y. refl; opens = λ y. refl; held = refl })
+          (record { pages = λ y. sym (ap (λ ps. ids_of t ps y) pages); pins = λ y. refl; opens = λ y. refl; held = refl })
+          (changes_none t (catalog_holding t old) a);
     }
 
 -- what the pages of a table have of a pool that holds no pins can be retired
@@ -78,7 +78,7 @@ module _ {Page Pin : Type 0} (t : PoolTerms Page Pin) (a b : PoolView Page Pin) 
         stands = record {
           names = subst NamesDiffer (sym tables) (names_removed old.tables.items place stands.names);
           tables = subst (λ n. AllTables t n new.tables.items new.rows.items) (sym length_same) (subst (λ ts. AllTables t old.page_bytes ts new.rows.items) (sym tables) (subst (AllTables t old.page_bytes (remove old.tables.items place)) (sym rows)
-            (table_removed t old.page_bytes old.tables.items old.rows.items place within stands.tables)));
+              (table_removed t old.page_bytes old.tables.items old.rows.items place within stands.tables)));
           differ = λ ends y. let e = gone y in let m = stands.differ ends y in omega (arith, e, m);
         };
         here = record {
@@ -86,9 +86,9 @@ module _ {Page Pin : Type 0} (t : PoolTerms Page Pin) (a b : PoolView Page Pin) 
           live = live_on t (catalog_pages new) (pages_only (ids_of t (sets_pages r.sets.items))) nothing a b c was (λ ends y. let e = gone y in let m = stands.differ ends y in omega (arith, e, m));
         };
         changes = changes_as t (both (pages_only (ids_of t (sets_pages r.sets.items))) (catalog_holding t new)) (catalog_holding t old) (both nothing (catalog_holding t new)) (catalog_holding t new) a b
-          (record { pages = λ y. let e = gone y in omega (arith, e); pins = λ y. refl; opens = λ y. refl; held = refl })
-          (record { pages = λ y. omega arith; pins = λ y. refl; opens = λ y. refl; held = refl })
-          (changes_beside t (pages_only (ids_of t (sets_pages r.sets.items))) nothing (catalog_holding t new) a b c);
+            (record { pages = λ y. let e = gone y in omega (arith, e); pins = λ y. refl; opens = λ y. refl; held = refl })
+            (record { pages = λ y. omega arith; pins = λ y. refl; opens = λ y. refl; held = refl })
+            (changes_beside t (pages_only (ids_of t (sets_pages r.sets.items))) nothing (catalog_holding t new) a b c);
       }
 
   -- the rows of one table were changed, or it was tried
@@ -122,9 +122,9 @@ module _ {Page Pin : Type 0} (t : PoolTerms Page Pin) (a b : PoolView Page Pin) 
             live = subst (λ rs. AllLive b (rows_pages rs)) (sym put) (live_set t b old.rows.items place v live (subst (λ ss. AllLive b (sets_pages ss)) (sym u.sets) (live_among t b old.rows.items place r within is live)));
           };
           changes = changes_as t (both nothing (catalog_holding t old)) (catalog_holding t old) (both nothing (catalog_holding t old)) (catalog_holding t new) a b
-            (record { pages = λ y. omega arith; pins = λ y. omega arith; opens = λ y. omega arith; held = omega arith })
-            (record { pages = λ y. let e = same y in omega (arith, e); pins = λ y. omega arith; opens = λ y. omega arith; held = omega arith })
-            (changes_beside t nothing nothing (catalog_holding t old) a b u.changes);
+              (record { pages = λ y. omega arith; pins = λ y. omega arith; opens = λ y. omega arith; held = omega arith })
+              (record { pages = λ y. let e = same y in omega (arith, e); pins = λ y. omega arith; opens = λ y. omega arith; held = omega arith })
+              (changes_beside t nothing nothing (catalog_holding t old) a b u.changes);
         }
 
     pub leaves_more : HasSetMore t c.columns a b r.sets.items v.sets.items → Leaves t a b old new
@@ -144,7 +144,7 @@ module _ {Page Pin : Type 0} (t : PoolTerms Page Pin) (a b : PoolView Page Pin) 
             live = subst (λ rs. AllLive b (rows_pages rs)) (sym put) (live_set t b old.rows.items place v live (subst (λ ss. AllLive b (sets_pages ss)) (sym u.sets) (live_push t b r.sets.items u.set (live_among t b old.rows.items place r within is live) u.here.live)));
           };
           changes = changes_as t (both nothing (catalog_holding t old)) (catalog_holding t old) (both (set_holding t u.set) (catalog_holding t old)) (catalog_holding t new) a b
-            (record { pages = λ y. omega arith; pins = λ y. omega arith; opens = λ y. omega arith; held = omega arith })
-            (record { pages = λ y. let e = more y in omega (arith, e); pins = λ y. omega arith; opens = λ y. omega arith; held = omega arith })
-            (changes_beside t nothing (set_holding t u.set) (catalog_holding t old) a b u.changes);
+              (record { pages = λ y. omega arith; pins = λ y. omega arith; opens = λ y. omega arith; held = omega arith })
+              (record { pages = λ y. let e = more y in omega (arith, e); pins = λ y. omega arith; opens = λ y. omega arith; held = omega arith })
+              (changes_beside t nothing (set_holding t u.set) (catalog_holding t old) a b u.changes);
         }

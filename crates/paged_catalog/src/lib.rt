@@ -11,6 +11,8 @@ mod finding;
 mod loading;
 mod retiring;
 
-pub use catalog::{Catalog, TableRows, columns, create_table, drop_table, has_table, load_table, new_catalog, sets};
+pub use catalog::{
+    Catalog, TableRows, columns, create_table, drop_table, has_table, load_table, new_catalog, sets,
+};
 pub use counting::counts;
 pub use retiring::retire_catalog;

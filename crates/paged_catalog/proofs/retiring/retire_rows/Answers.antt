@@ -37,6 +37,6 @@ tables-preserved g c =
       formed = left_rows_formed t n c.pop.new.self.items c.in-Some.last (subst (AllRowsFormed t n) c.in-Some.ensures.items c.tables.invariant.formed);
       left_ok = left_after t left last a b (subst (IsRetirable t a) e c.tables.invariant.left_ok) c.retire_sets.ensures;
       changes = changes_then t (pages_only (ids_of t (rows_pages c.args.all.items))) (pages_only (ids_of t (left ++ last))) (pages_only (ids_of t left)) (g.P.Pages.view c.args.pages.now) a b
-        (subst (λ ps. Changes t (pages_only (ids_of t (rows_pages c.args.all.items))) (pages_only (ids_of t ps)) (g.P.Pages.view c.args.pages.now) a) e c.tables.invariant.changes)
-        (left_stays t left last a b c.retire_sets.ensures);
+          (subst (λ ps. Changes t (pages_only (ids_of t (rows_pages c.args.all.items))) (pages_only (ids_of t ps)) (g.P.Pages.view c.args.pages.now) a) e c.tables.invariant.changes)
+          (left_stays t left last a b c.retire_sets.ensures);
     }

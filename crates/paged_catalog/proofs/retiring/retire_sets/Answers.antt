@@ -48,6 +48,6 @@ sets-preserved g c =
       formed = left_formed t n c.pop.new.self.items c.in-Some.last (subst (AllFormed t n) c.in-Some.ensures.items c.sets.invariant.formed);
       left_ok = left_after t left last a b (subst (IsRetirable t a) e c.sets.invariant.left_ok) c.retire_set.ensures;
       changes = changes_then t (pages_only (ids_of t (sets_pages c.args.all.items))) (pages_only (ids_of t (left ++ last))) (pages_only (ids_of t left)) (g.P.Pages.view c.args.pages.now) a b
-        (subst (λ ps. Changes t (pages_only (ids_of t (sets_pages c.args.all.items))) (pages_only (ids_of t ps)) (g.P.Pages.view c.args.pages.now) a) e c.sets.invariant.changes)
-        (left_stays t left last a b c.retire_set.ensures);
+          (subst (λ ps. Changes t (pages_only (ids_of t (sets_pages c.args.all.items))) (pages_only (ids_of t ps)) (g.P.Pages.view c.args.pages.now) a) e c.sets.invariant.changes)
+          (left_stays t left last a b c.retire_set.ensures);
     }
