@@ -6,3 +6,5 @@ pub mod Left
 pub mod Loaded
 pub mod Reading
 pub mod Counted
+pub mod Leaving
+pub mod Rows

@@ -8,6 +8,7 @@
 mod catalog;
 mod counting;
 mod finding;
+mod laws;
 mod loading;
 mod retiring;
 
@@ -15,4 +16,5 @@ pub use catalog::{
     Catalog, TableRows, columns, create_table, drop_table, has_table, load_table, new_catalog, sets,
 };
 pub use counting::counts;
+pub use laws::rows_are_of_their_columns;
 pub use retiring::retire_catalog;
