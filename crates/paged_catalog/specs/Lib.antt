@@ -1,0 +1,5 @@
+pub mod Meaning
+pub mod Finding
+pub mod Stands
+pub mod Loading
+pub mod Counting
