@@ -1,0 +1,4 @@
+pub mod Dropping
+pub mod Acting
+pub mod SettingsPage
+pub mod Told
