@@ -1,8 +1,5 @@
 -- The tables of a check.
 use Rattle.std.specs.Prelude.{ℕ, ◌≡◌, List, [], map, Result, Ok, Err, ⊤}
-use Rattle.bound_tree.specs.declared.statement.Bound.{Bound}
-use Rattle.bound_tree.specs.declared.statement.Bound.TheVariants.{CreateTable, DropTable, Copy, Explain, Select}
-use Rattle.sql_plan.specs.Numbered.{AreNumbered}
 use Rattle.sql_scope.specs.declared.scope.TableColumns.{TableColumns}
 use Rattle.script_says.specs.Catalog.{Catalog, Table}
 use Rattle.script_says.specs.Block.{Block, IsPrinted}
@@ -14,14 +11,6 @@ empty_table columns = record { name = columns.name; columns = columns.columns; r
 
 abbrev pub catalog_in : List TableColumns → Catalog
 catalog_in tables = map empty_table tables
-
--- a SELECT that can be planned
-abbrev pub IsPlanned : Bound → Type 0
-IsPlanned (CreateTable name columns) = ⊤
-IsPlanned (DropTable name) = ⊤
-IsPlanned (Copy name file header delimiter null) = ⊤
-IsPlanned (Explain select) = AreNumbered select
-IsPlanned (Select select) = AreNumbered select
 
 -- it left these tables and printed this text; or memory ran out
 abbrev pub Acts : {E : Type 0} → Outcome → Catalog → Result (List ℕ) E → Type 0

@@ -8,10 +8,12 @@ ghost use Rattle.script_opening.specs.Reading.{result_items, IsOfTexts};
 ghost use Rattle.script_says.specs.Checking.{check_statement, checked};
 ghost use Rattle.script_says.specs.Ends.{IsStep};
 ghost use Rattle.script_says.specs.LastLine.{IsBlock};
-ghost use Rattle.script_check.specs.Tables.{catalog_in, IsPlanned, Acts};
+ghost use Rattle.numbered_binding.specs.Numbered.{IsNumberedStatement};
+ghost use Rattle.script_check.specs.Tables.{catalog_in, Acts};
 
 use crate::tables::drop_table;
 use bound_tree::{Bound, BoundSelect};
+use numbered_binding::bound_statements_are_numbered;
 use ooc_types::OutOfMemory;
 use plan_text::explain;
 use run_settings::{Place, Refusal, Status};
@@ -34,7 +36,7 @@ fn plan_block(alloc: Global, select: &BoundSelect) -> Result<Vec<u8>, OutOfMemor
 
 // What a bound statement does, and the block that it prints.
 fn act(alloc: Global, bound: Bound, tables: &mut Vec<TableColumns>) -> Result<Vec<u8>, OutOfMemory>
-    requires { IsPlanned bound }
+    requires { IsNumberedStatement bound }
     ensures step { Acts (checked (catalog_in tables.old.items) bound) (catalog_in tables.new.items) (result_items result) }
     ensures block { IfOk result (λ text. IsBlock text.items) }
 {
@@ -69,7 +71,10 @@ pub(crate) fn check_statement(
     ensures kinds { IfErr result IsOfTexts }
 {
     match bind(alloc, script, statement, tables.as_slice(), limit) {
-        Ok(bound) => Ok(act(alloc, bound, tables)?),
+        Ok(bound) => {
+            bound_statements_are_numbered();
+            Ok(act(alloc, bound, tables)?)
+        }
         Err(BindFault::Refused { place, kind }) => Err(Status::Refused(Refusal {
             statement: number,
             place: Place::Byte(place as u64),

@@ -3,7 +3,7 @@ use Rattle.script_check.proofs.Acting.{step_acted, step_refused}
 use Rattle.script_check.proofs.statement.check_statement.Goals as goal
 
 pub act-requires : goal.act-requires
-act-requires c = ?
+act-requires c = c.bound_statements_are_numbered.ensures c.args.statement.now c.args.script.now c.as_slice.result.now c.args.limit c.in-Ok.bound c.in-Ok.ensures
 
 pub returns-in_ok-act-in-Ok-clause-step : goal.returns-in_ok-act-in-Ok-clause-step
 returns-in_ok-act-in-Ok-clause-step c =
