@@ -1,0 +1,19 @@
+//! The plain evaluator's parts over lists of rows: conditions, items and order, each as the meaning says it.
+#![tactic(auto)]
+
+mod answer;
+mod compare;
+mod cut;
+mod items;
+mod judging;
+mod kept;
+mod order;
+mod test;
+
+pub use answer::Answer;
+pub use cut::{cut_answer, cut_rows};
+pub use items::project;
+pub use judging::judge;
+pub use kept::kept_rows;
+pub use order::order_rows;
+pub use test::{Test, tests_of};
