@@ -8,6 +8,9 @@ use Rattle.sql_expr.specs.Arithmetic.{Meaning}
 use Rattle.sql_expr.specs.Logic.{truth_in}
 use Rattle.sql_meaning.specs.Found.{Row}
 use Rattle.sql_meaning.specs.Judged.{Condition, Verdict, if_true, judged, says, then_judged}
+use Rattle.sql_expr.specs.declared.fault.EvalFault.{EvalFault}
+use Rattle.sql_expr.specs.declared.fault.EvalFault.TheVariants.{Fault, OutOfMemory}
+use Rattle.plain_rows.specs.Outcomes.{Told}
 use Rattle.plain_rows.specs.Tests.{acts_here, judged_by_one}
 
 abbrev both : Verdict → Verdict → Verdict
@@ -58,3 +61,7 @@ front-drops cs ds row e = judged-both cs ds row ∙ ap (λ v. both v (judged ds 
 
 pub front-faults : (cs ds : List Condition) (row : Row) (fault : ValueFault) → judged cs row ≡ Err fault → judged (cs ++ ds) row ≡ Err fault
 front-faults cs ds row fault e = judged-both cs ds row ∙ ap (λ v. both v (judged ds row)) e
+
+pub told-fault : (cs ds : List Condition) (row : Row) (e : EvalFault) → Told (judged cs row) (Err e) → Told (judged (cs ++ ds) row) (Err e)
+told-fault cs ds row OutOfMemory told = tt
+told-fault cs ds row (Fault fault) told = front-faults cs ds row fault told

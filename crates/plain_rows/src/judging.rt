@@ -45,8 +45,13 @@ pub fn judge(tests: &[Test<'_>], row: &[Value]) -> Result<bool, EvalFault>
     ensures { Told (judged (plain_first (map condition_in tests.now)) row.now) result }
 {
     match judge_some(tests, true, row) {
-        Ok(true) => judge_some(tests, false, row),
-        Ok(false) => Ok(false),
+        Ok(keeps) => {
+            if keeps {
+                judge_some(tests, false, row)
+            } else {
+                Ok(false)
+            }
+        }
         Err(fault) => Err(fault),
     }
 }
