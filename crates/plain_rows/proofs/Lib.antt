@@ -1,3 +1,5 @@
 pub mod Collecting
+pub mod Fitting
+pub mod OneTable
 pub mod Verdicts
 pub mod Placing

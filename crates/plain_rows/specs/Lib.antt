@@ -1,4 +1,5 @@
 pub mod Answers
+pub mod Cores
 pub mod Outcomes
 pub mod Places
 pub mod Tests

@@ -4,16 +4,20 @@
 mod answer;
 mod compare;
 mod cut;
+mod distinct;
 mod items;
 mod judging;
 mod kept;
 mod order;
+mod table;
 mod test;
 
 pub use answer::Answer;
 pub use cut::{cut_answer, cut_rows};
+pub use distinct::distinct_rows;
 pub use items::project;
 pub use judging::judge;
 pub use kept::kept_rows;
 pub use order::order_rows;
+pub use table::select_table;
 pub use test::{Test, tests_of};
