@@ -1,5 +1,5 @@
 -- Rows that meet types fit what is typed over these.
-use Rattle.std.proofs.Common.{◌≡◌, ℕ, ◌<◌, suc, zero, Bool, true, false, List, [], ◌∷◌, ◌++◌, length, map, slice_index_or, arith, All}
+use Rattle.std.proofs.Common.{◌≡◌, ℕ, ◌<◌, suc, zero, Bool, true, false, List, [], ◌∷◌, ◌++◌, length, map, slice_index_or, subst, sym, arith, All}
 use Rattle.std.specs.Prelude.{flat_map, filter, Result, Ok, Err}
 use Rattle.std.specs.List.{AllByRecursion}
 use Rattle.ooc_types.specs.Meets.{Meets}
@@ -22,7 +22,7 @@ pub each : {A : Type 0} (P Q : A → Type 0) → ((x : A) → P x → Q x) → (
 each P Q f [] all = tt
 each P Q f (x ∷ xs) all = (f x all.0, each P Q f xs all.1)
 
-both-have : {A : Type 0} (P : A → Type 0) (xs ys : List A) → AllByRecursion P xs → AllByRecursion P ys → AllByRecursion P (xs ++ ys)
+pub both-have : {A : Type 0} (P : A → Type 0) (xs ys : List A) → AllByRecursion P xs → AllByRecursion P ys → AllByRecursion P (xs ++ ys)
 both-have P [] ys xall yall = yall
 both-have P (x ∷ xs) ys xall yall = (xall.0, both-have P xs ys xall.1 yall)
 
@@ -53,3 +53,8 @@ items-fit limit columns items rows over meet =
     all-at (λ row. All (FitsItem row) items) rows
     (each (Meets limit columns) (λ row. All (FitsItem row) items)
     (λ row meets. all-at (FitsItem row) items (each (IsTyped columns) (FitsItem row) (λ item typed. record { columns = columns; limit = limit; typed = typed; meets = meets }) items over)) rows meet)
+
+-- the same of lists that are the same
+pub moved : (tests us : List Test) (rows vs : List Row) → us ≡ tests → vs ≡ rows → All (λ row. All (IsReady row) tests) rows → All (λ row. All (IsReady row) us) vs
+moved tests us rows vs same are ready =
+    subst (λ ts. All (λ row. All (IsReady row) ts) vs) (sym same) (subst (λ rs. All (λ row. All (IsReady row) tests) rs) (sym are) ready)

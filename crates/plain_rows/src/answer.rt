@@ -1,5 +1,5 @@
 //! What a step gives: rows, and the kinds of the faults that it noted.
-ghost use Rattle.std.specs.Prelude.{◌≡◌, [], IfOk, OnOk};
+ghost use Rattle.std.specs.Prelude.{◌≡◌, ◌++◌, [], IfOk, OnOk};
 ghost use Rattle.sql_meaning.specs.Found.{clean};
 ghost use Rattle.plain_rows.specs.Answers.{Adds, found_in, one_row, one_fault};
 
@@ -58,4 +58,36 @@ pub(crate) fn copy_row(row: &Row) -> Result<Row, OutOfMemory>
 {
     let copy = row.clone()?;
     Ok(copy)
+}
+
+/// Adds copies of rows behind the others.
+pub(crate) fn add_rows(rows: &[Row], into: &mut Vec<Row>) -> Result<(), OutOfMemory>
+    ensures { OnOk result (into.new.items ≡ into.old.items ++ rows.now) }
+{
+    for row in rows {
+        into.push(copy_row(row)?)?;
+    }
+    Ok(())
+}
+
+/// Notes faults behind the others.
+pub(crate) fn add_faults(
+    faults: &[ValueFault],
+    into: &mut Vec<ValueFault>,
+) -> Result<(), OutOfMemory>
+    ensures { OnOk result (into.new.items ≡ into.old.items ++ faults.now) }
+{
+    for fault in faults {
+        into.push(*fault)?;
+    }
+    Ok(())
+}
+
+/// Adds the rows and faults of an answer behind those of another.
+pub(crate) fn add_answer(into: &mut Answer, more: Answer) -> Result<(), OutOfMemory>
+    ensures { OnOk result (Adds into.old into.new (found_in more)) }
+{
+    add_rows(more.rows.as_slice(), &mut into.rows)?;
+    add_faults(more.faults.as_slice(), &mut into.faults)?;
+    Ok(())
 }

@@ -9,6 +9,8 @@ mod items;
 mod judging;
 mod kept;
 mod order;
+mod sets;
+mod source;
 mod table;
 mod test;
 
@@ -19,5 +21,7 @@ pub use items::project;
 pub use judging::judge;
 pub use kept::kept_rows;
 pub use order::order_rows;
+pub use sets::{combine, combine_rows};
+pub use source::{Source, from_rows, join};
 pub use table::select_table;
 pub use test::{Test, tests_of};
