@@ -37,7 +37,7 @@ impl Answer {
 }
 
 /// Adds a row behind the others.
-pub(crate) fn add_row(into: &mut Answer, row: Row) -> Result<(), OutOfMemory>
+pub fn add_row(into: &mut Answer, row: Row) -> Result<(), OutOfMemory>
     ensures { OnOk result (Adds into.old into.new (one_row row)) }
 {
     into.rows.push(row)?;
@@ -45,7 +45,7 @@ pub(crate) fn add_row(into: &mut Answer, row: Row) -> Result<(), OutOfMemory>
 }
 
 /// Notes a fault behind the others.
-pub(crate) fn add_fault(into: &mut Answer, fault: ValueFault) -> Result<(), OutOfMemory>
+pub fn add_fault(into: &mut Answer, fault: ValueFault) -> Result<(), OutOfMemory>
     ensures { OnOk result (Adds into.old into.new (one_fault fault)) }
 {
     into.faults.push(fault)?;
@@ -53,7 +53,7 @@ pub(crate) fn add_fault(into: &mut Answer, fault: ValueFault) -> Result<(), OutO
 }
 
 /// A copy of a row.
-pub(crate) fn copy_row(row: &Row) -> Result<Row, OutOfMemory>
+pub fn copy_row(row: &Row) -> Result<Row, OutOfMemory>
     ensures { IfOk result (λ copy. copy ≡ row.now) }
 {
     let copy = row.clone()?;
@@ -61,7 +61,7 @@ pub(crate) fn copy_row(row: &Row) -> Result<Row, OutOfMemory>
 }
 
 /// Adds copies of rows behind the others.
-pub(crate) fn add_rows(rows: &[Row], into: &mut Vec<Row>) -> Result<(), OutOfMemory>
+pub fn add_rows(rows: &[Row], into: &mut Vec<Row>) -> Result<(), OutOfMemory>
     ensures { OnOk result (into.new.items ≡ into.old.items ++ rows.now) }
 {
     for row in rows {
@@ -71,10 +71,7 @@ pub(crate) fn add_rows(rows: &[Row], into: &mut Vec<Row>) -> Result<(), OutOfMem
 }
 
 /// Notes faults behind the others.
-pub(crate) fn add_faults(
-    faults: &[ValueFault],
-    into: &mut Vec<ValueFault>,
-) -> Result<(), OutOfMemory>
+pub fn add_faults(faults: &[ValueFault], into: &mut Vec<ValueFault>) -> Result<(), OutOfMemory>
     ensures { OnOk result (into.new.items ≡ into.old.items ++ faults.now) }
 {
     for fault in faults {
@@ -84,7 +81,7 @@ pub(crate) fn add_faults(
 }
 
 /// Adds the rows and faults of an answer behind those of another.
-pub(crate) fn add_answer(into: &mut Answer, more: Answer) -> Result<(), OutOfMemory>
+pub fn add_answer(into: &mut Answer, more: Answer) -> Result<(), OutOfMemory>
     ensures { OnOk result (Adds into.old into.new (found_in more)) }
 {
     add_rows(more.rows.as_slice(), &mut into.rows)?;

@@ -11,7 +11,7 @@ use ooc_types::{OutOfMemory, Row, Value};
 use std::alloc::Global;
 
 /// Whether two rows have the same values: 1.0 and 1.00 are two.
-pub(crate) fn same_row(a: &[Value], b: &[Value]) -> bool
+pub fn same_row(a: &[Value], b: &[Value]) -> bool
     ensures { result ≡ row_eq a.now b.now }
 {
     a == b
@@ -53,11 +53,7 @@ pub fn distinct_rows(alloc: Global, rows: &[Row]) -> Result<Vec<Row>, OutOfMemor
 }
 
 /// The rows, each once where the SELECT is DISTINCT. Where a fault was noted no rows are left.
-pub(crate) fn distinct_answer(
-    alloc: Global,
-    distinct: bool,
-    answer: Answer,
-) -> Result<Answer, OutOfMemory>
+pub fn distinct_answer(alloc: Global, distinct: bool, answer: Answer) -> Result<Answer, OutOfMemory>
     ensures { IfOk result (λ left. found_in left ≡ distinct_found distinct (found_in answer)) }
 {
     let Answer { rows, faults } = answer;

@@ -20,11 +20,7 @@ use sql_expr::Expr;
 use std::alloc::Global;
 
 /// The rows of an answer that conditions keep. Where a fault was noted no rows are left.
-pub(crate) fn keep_answer(
-    alloc: Global,
-    tests: &[Test<'_>],
-    answer: Answer,
-) -> Result<Answer, OutOfMemory>
+pub fn keep_answer(alloc: Global, tests: &[Test<'_>], answer: Answer) -> Result<Answer, OutOfMemory>
     requires { All (λ row. All (IsReady row) tests.now) answer.rows.items }
     ensures { IfOk result (λ left. found_in left ≡ if_clean (found_in answer) (kept (map condition_in tests.now))) }
 {
@@ -39,11 +35,7 @@ pub(crate) fn keep_answer(
 }
 
 /// The items over the rows of an answer. Where a fault was noted no rows are left.
-pub(crate) fn project_answer(
-    alloc: Global,
-    items: &[Expr],
-    answer: Answer,
-) -> Result<Answer, OutOfMemory>
+pub fn project_answer(alloc: Global, items: &[Expr], answer: Answer) -> Result<Answer, OutOfMemory>
     requires { All (λ row. All (FitsItem row) items.now) answer.rows.items }
     ensures { IfOk result (λ left. found_in left ≡ if_clean (found_in answer) (projected (map row_value_of items.now))) }
 {

@@ -39,7 +39,7 @@ pub fn tests_of<'a>(alloc: Global, conditions: &'a [Expr]) -> Result<Vec<Test<'a
 }
 
 /// Whether a test is a plain condition.
-pub(crate) fn is_plain_test(test: &Test<'_>) -> bool
+pub fn is_plain_test(test: &Test<'_>) -> bool
     ensures { result ≡ is_plain_condition (condition_in test.now) }
 {
     match test {
@@ -95,7 +95,7 @@ fn perhaps_not(negated: bool, truth: Truth) -> Truth
 }
 
 /// What a test says of a row.
-pub(crate) fn test_truth(test: &Test<'_>, row: &[Value]) -> Result<Truth, EvalFault>
+pub fn test_truth(test: &Test<'_>, row: &[Value]) -> Result<Truth, EvalFault>
     requires { IsReady row.now test.now }
     ensures { TellsTruth ((condition_in test.now).says row.now) result }
 {
