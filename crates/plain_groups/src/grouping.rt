@@ -108,11 +108,12 @@ pub fn group(alloc: Global, grouping: &Grouping, rows: &[Row]) -> Result<Answer,
 {
     let found = key_rows(alloc, grouping.keys.as_slice(), rows)?;
     let keys = keys_of(alloc, grouping.keys.as_slice(), found.rows.as_slice())?;
+    let noted = found.faults;
     group_keys(
         alloc,
         grouping.aggregates.as_slice(),
         found.rows.as_slice(),
         keys.as_slice(),
-        found.faults,
+        noted,
     )
 }
