@@ -1,6 +1,7 @@
 -- Tests as the conditions that they are.
-use Rattle.std.specs.Prelude.{◌≡◌, Bool, true, false, not, if◌then◌else◌, List, map, Result, Ok, Err, ⊤}
+use Rattle.std.specs.Prelude.{◌≡◌, Option, Some, None, Bool, true, false, not, if◌then◌else◌, List, map, Result, Ok, Err, ⊤}
 use Rattle.ooc_types.specs.declared.schema.SqlType.TheVariants.{Boolean}
+use Rattle.ooc_types.specs.declared.value.Value.{Value}
 use Rattle.ooc_types.specs.declared.truth.Truth.{Truth as Ternary}
 use Rattle.sql_expr.specs.declared.fault.EvalFault.{EvalFault}
 use Rattle.sql_expr.specs.declared.fault.EvalFault.TheVariants.{Fault, OutOfMemory}
@@ -15,6 +16,24 @@ use Rattle.sql_meaning.specs.Judged.{Condition, Verdict, judged, is_plain, plain
 use Rattle.sql_meaning.specs.Statements.{condition_of, member_says}
 use Rattle.plain_rows.specs.declared.test.Test.{Test}
 use Rattle.plain_rows.specs.declared.test.Test.TheVariants as of
+
+-- values, and whether one is asked to be among them or not
+pub record Among : Type 0 where
+  pub values : List Value
+  pub negated : Bool
+
+-- what a test is made of: an expression, and for IN the values
+pub record Parts : Type 0 where
+  pub of : Expr
+  pub among : Option Among
+
+abbrev pub parts_in : Test → Parts
+parts_in (of.Condition expr) = record { of = expr.now; among = None }
+parts_in (of.Member expr values negated) = record { of = expr.now; among = Some (record { values = values.now; negated = negated }) }
+
+-- an expression alone
+abbrev pub parts_of : Expr → Parts
+parts_of expr = record { of = expr; among = None }
 
 -- IN isn't plain
 abbrev pub condition_in : Test → Condition

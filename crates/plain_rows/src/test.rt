@@ -6,7 +6,7 @@ ghost use Rattle.sql_expr.specs.Comparison.{compared};
 ghost use Rattle.sql_expr.specs.Logic.{truth_in as truth_in_value, or_truth, negated_if};
 ghost use Rattle.sql_expr.specs.declared.tree.CompareSign.TheVariants.{Equal};
 ghost use Rattle.sql_meaning.specs.Sets.{member as is_member};
-ghost use Rattle.plain_rows.specs.Tests.{condition_in, IsReady, TellsTruth};
+ghost use Rattle.plain_rows.specs.Tests.{condition_in, IsReady, parts_in, parts_of, TellsTruth};
 
 use crate::compare::is_null;
 use ooc_types::{OutOfMemory, Truth, Value, cmp_values};
@@ -29,7 +29,8 @@ pub enum Test<'a> {
 
 /// The conditions of ON or HAVING as tests.
 pub fn tests_of<'a>(alloc: Global, conditions: &'a [Expr]) -> Result<Vec<Test<'a>>, OutOfMemory>
-    ensures { IfOk result (λ tests. map condition_in tests.items ≡ map condition_of conditions.now) }
+    ensures conditions { IfOk result (λ tests. map condition_in tests.items ≡ map condition_of conditions.now) }
+    ensures parts { IfOk result (λ tests. map parts_in tests.items ≡ map parts_of conditions.now) }
 {
     let mut tests = Vec::new(alloc);
     for condition in conditions {
