@@ -65,3 +65,11 @@ judged_by_one plain condition row = if acts_here plain condition then then_judge
 -- the row where the conditions keep it, or the fault
 abbrev pub kept_of : List Condition → Row → Found Row
 kept_of conditions row = verdict_found row (judged (plain_first conditions) row)
+
+-- the condition that is made of these parts
+abbrev pub condition_among : Expr → Option Among → Condition
+condition_among expr None = condition_of expr
+condition_among expr (Some among) = record { plain = false; says = λ row. member_says among.negated among.values (value_of row expr) }
+
+abbrev pub condition_by : Parts → Condition
+condition_by parts = condition_among parts.of parts.among
