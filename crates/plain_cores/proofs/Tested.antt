@@ -6,7 +6,6 @@ use Rattle.ooc_types.specs.Meets.{Meets}
 use Rattle.ooc_types.specs.declared.schema.SqlType.{SqlType}
 use Rattle.sql_expr.specs.declared.tree.Expr.{Expr}
 use Rattle.sql_meaning.specs.Found.{Row}
-use Rattle.sql_meaning.specs.Judged.{Condition}
 use Rattle.sql_meaning.specs.Statements.{condition_of}
 use Rattle.plain_rows.specs.declared.test.Test.{Test}
 use Rattle.plain_rows.specs.declared.test.Test.TheVariants as of

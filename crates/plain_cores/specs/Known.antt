@@ -1,13 +1,12 @@
 -- Conjuncts whose subqueries were answered, as the meaning has them.
-use Rattle.std.specs.Prelude.{◌≡◌, Bool, false, List, [], map, Some}
+use Rattle.std.specs.Prelude.{Bool, false, List, [], Some}
 use Rattle.ooc_types.specs.declared.value.Value.{Value}
 use Rattle.sql_expr.specs.declared.fault.ValueFault.{ValueFault}
 use Rattle.sql_expr.specs.declared.tree.Expr.{Expr}
 use Rattle.sql_expr.specs.Meaning.{value_of}
 use Rattle.sql_meaning.specs.Found.{Found, Row}
-use Rattle.sql_meaning.specs.Judged.{Condition}
-use Rattle.sql_meaning.specs.Statements.{Meant, condition_of, member_says, membership}
-use Rattle.plain_rows.specs.Tests.{Among, Parts, parts_of, condition_by}
+use Rattle.sql_meaning.specs.Statements.{Meant, member_says, membership}
+use Rattle.plain_rows.specs.Tests.{Parts, parts_of, condition_by}
 use Rattle.plain_cores.specs.declared.known.Known.{Known}
 use Rattle.plain_cores.specs.declared.known.Known.TheVariants as of
 

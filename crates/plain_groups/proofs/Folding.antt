@@ -1,9 +1,8 @@
 -- The state of a list of values, one value more.
-use Rattle.std.proofs.Common.{◌≡◌, ℕ, ◌+◌, ◌<◌, suc, ℤ, ◌+ℤ◌, List, [], ◌∷◌, ◌++◌, take, get_or, length, refl, sym, ap, ◌∙◌, arith, Option}
+use Rattle.std.proofs.Common.{◌≡◌, ℕ, ◌+◌, ◌<◌, ◌+ℤ◌, List, [], ◌∷◌, take, get_or, length, ap, ◌∙◌, arith}
 use Rattle.std.specs.List.{fold}
 use Rattle.std.proofs.lemmas.Grind.{fold-append}
 use Rattle.ooc_types.specs.declared.value.Value.{Value}
-use Rattle.sql_expr.specs.Comparison.{is_null}
 use Rattle.sql_expr.specs.Outcomes.{digits_of}
 use Rattle.sql_meaning.specs.Aggregates.{State, either_of, greater, lesser, nothing_taken, one_taken, present_value, state_of, together}
 use Rattle.plain_rows.proofs.Collecting.{take-next}

@@ -1,13 +1,12 @@
 -- The outcomes of rows, one after another.
-use Rattle.std.proofs.Common.{◌≡◌, ℕ, ◌+◌, ◌<◌, ◌≤◌, suc, List, [], ◌∷◌, ◌++◌, take, drop, get_or, length, map, refl, sym, ap, ◌∙◌, append-nil, append_assoc, arith}
+use Rattle.std.proofs.Common.{◌≡◌, ℕ, ◌+◌, ◌<◌, ◌≤◌, suc, List, [], ◌∷◌, ◌++◌, take, drop, get_or, length, refl, sym, ap, ◌∙◌, append-nil, append_assoc, arith}
 use Rattle.std.specs.Prelude.{flat_map, Result, Ok, Err}
-use Rattle.std.proofs.Math.Seq.{drop-cons, take-length}
+use Rattle.std.proofs.Math.Seq.{drop-cons}
 use Rattle.std.proofs.lemmas.Grind.{take_at_read, flat_map-append, common_steps}
 use Rattle.sql_expr.specs.declared.fault.ValueFault.{ValueFault}
 use Rattle.sql_expr.specs.Arithmetic.{Meaning}
 use Rattle.sql_meaning.specs.Found.{Found, Row, collected}
 use Rattle.sql_meaning.specs.Groups.{behind_value}
-use Rattle.sql_meaning.specs.Judged.{RowValue}
 use Rattle.plain_rows.specs.declared.answer.Answer.{Answer}
 use Rattle.plain_rows.specs.Answers.{Adds, found_in}
 use Rattle.plain_rows.specs.Outcomes.{put_before}

@@ -1,11 +1,11 @@
 -- Rows that meet types fit what is typed over these.
-use Rattle.std.proofs.Common.{◌≡◌, ℕ, ◌<◌, suc, zero, Bool, true, false, List, [], ◌∷◌, ◌++◌, length, map, slice_index_or, subst, sym, arith, All}
-use Rattle.std.specs.Prelude.{flat_map, filter, Result, Ok, Err}
+use Rattle.std.proofs.Common.{◌≡◌, ℕ, suc, zero, true, false, List, [], ◌∷◌, ◌++◌, subst, sym, arith, All}
+use Rattle.std.specs.Prelude.{Ok, Err}
 use Rattle.std.specs.List.{AllByRecursion}
 use Rattle.ooc_types.specs.Meets.{Meets}
 use Rattle.ooc_types.specs.declared.schema.SqlType.{SqlType}
 use Rattle.sql_expr.specs.declared.tree.Expr.{Expr}
-use Rattle.sql_expr.specs.Typing.{FitsRow, IsTyped}
+use Rattle.sql_expr.specs.Typing.{IsTyped}
 use Rattle.sql_meaning.specs.Found.{Row}
 use Rattle.sql_meaning.specs.Judged.{Condition, Verdict, judged, kept, plain_first, verdict_found}
 use Rattle.plain_rows.specs.declared.test.Test.{Test}

@@ -1,20 +1,17 @@
 -- Joined rows meet the types of both sides.
-use Rattle.std.proofs.Common.{◌≡◌, ℕ, ◌+◌, ◌<◌, Bool, true, false, cond, ◌&&◌, List, [], ◌∷◌, ◌++◌, length, map, drop, get_or, replicate, refl, subst, sym, ap, ◌∙◌, append-nil, append_assoc, All}
+use Rattle.std.proofs.Common.{◌≡◌, ℕ, Bool, true, false, cond, ◌&&◌, List, [], ◌∷◌, ◌++◌, length, map, subst, sym, ap, ◌∙◌, append-nil, append_assoc, All}
 use Rattle.std.specs.List.{AllByRecursion}
 use Rattle.ooc_types.specs.Meets.{AllMeet, Meets}
 use Rattle.ooc_types.specs.declared.schema.SqlType.{SqlType}
 use Rattle.ooc_types.specs.declared.value.Value.{Value}
-use Rattle.ooc_types.specs.declared.value.Value.TheVariants.{Null}
 use Rattle.sql_meaning.specs.Found.{Found, Row, and_then, clean}
-use Rattle.sql_meaning.specs.From.{Source as MeantSource, from_behind, from_rows, is_empty, joined, met, nulls, padded, pairs}
+use Rattle.sql_meaning.specs.From.{Source as MeantSource, from_behind, is_empty, joined, met, nulls, pairs}
 use Rattle.sql_meaning.specs.Judged.{kept}
 use Rattle.plain_rows.specs.declared.answer.Answer.{Answer}
 use Rattle.plain_rows.specs.declared.source.Source.{Source}
 use Rattle.plain_rows.specs.Answers.{found_in}
-use Rattle.plain_rows.specs.Cores.{IsTestOver}
-use Rattle.plain_rows.specs.Froms.{AreBehind, AreReadyPairs, CanJoin, IsFrom, IsSourceBehind, source_in}
-use Rattle.plain_rows.specs.Tests.{IsReady, condition_in}
-use Rattle.plain_rows.proofs.Collecting.{drop-next, drop-whole}
+use Rattle.plain_rows.specs.Froms.{AreBehind, AreReadyPairs, IsFrom, IsSourceBehind, source_in}
+use Rattle.plain_rows.specs.Tests.{condition_in}
 use Rattle.plain_rows.proofs.Fitting.{all-at, both-have, each, kept-has, tests-ready}
 
 meet-both : {K : Type 0} (F : K → Value → Type 0) (ks ls : List K) (vs ws : Row) → AllMeet F ks vs → AllMeet F ls ws → AllMeet F (ks ++ ls) (vs ++ ws)

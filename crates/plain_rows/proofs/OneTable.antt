@@ -1,11 +1,10 @@
 -- A SELECT over one table.
-use Rattle.std.proofs.Common.{◌≡◌, ℕ, Bool, List, [], ◌∷◌, ◌++◌, map, refl, sym, ap, ap₂, ◌∙◌, append-nil}
-use Rattle.std.specs.Prelude.{flat_map}
+use Rattle.std.proofs.Common.{◌≡◌, Bool, List, [], ◌∷◌, ◌++◌, refl, sym, ap, ap₂, ◌∙◌, append-nil}
 use Rattle.sql_expr.specs.declared.fault.ValueFault.{ValueFault}
 use Rattle.sql_meaning.specs.Found.{Found, Row, clean, and_then, if_clean, unless_faulted}
 use Rattle.sql_meaning.specs.From.{from_rows, pairs}
 use Rattle.sql_meaning.specs.Judged.{Condition, RowValue, kept}
-use Rattle.sql_meaning.specs.Select.{Cut, selected, projected, cut_found, below_having}
+use Rattle.sql_meaning.specs.Select.{selected, projected, below_having}
 use Rattle.plain_rows.specs.Answers.{distinct_found}
 use Rattle.plain_rows.specs.Cores.{plain_core, table_source}
 

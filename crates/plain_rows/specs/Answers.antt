@@ -1,5 +1,5 @@
 -- Answers as the meaning has them.
-use Rattle.std.specs.Prelude.{◌≡◌, Bool, List, [], ◌∷◌, ◌++◌}
+use Rattle.std.specs.Prelude.{◌≡◌, Bool, [], ◌∷◌, ◌++◌}
 use Rattle.sql_expr.specs.declared.fault.ValueFault.{ValueFault}
 use Rattle.sql_meaning.specs.Found.{Found, Row, clean, if_clean}
 use Rattle.sql_meaning.specs.Select.{perhaps_distinct}

@@ -1,5 +1,5 @@
 -- Tests as the conditions that they are.
-use Rattle.std.specs.Prelude.{◌≡◌, Option, Some, None, Bool, true, false, not, if◌then◌else◌, List, map, Result, Ok, Err, ⊤}
+use Rattle.std.specs.Prelude.{◌≡◌, Option, Some, None, Bool, true, false, not, if◌then◌else◌, List, Result, Ok, Err, ⊤}
 use Rattle.ooc_types.specs.declared.schema.SqlType.TheVariants.{Boolean}
 use Rattle.ooc_types.specs.declared.value.Value.{Value}
 use Rattle.ooc_types.specs.declared.truth.Truth.{Truth as Ternary}

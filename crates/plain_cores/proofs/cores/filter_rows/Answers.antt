@@ -1,4 +1,4 @@
-use Rattle.std.proofs.Common.{◌≡◌, List, map, subst, sym, ap, ap₂, ◌++◌, ◌∙◌}
+use Rattle.std.proofs.Common.{List, map, subst, sym, ap, ap₂, ◌++◌, ◌∙◌}
 use Rattle.std.specs.List.{AllByRecursion}
 use Rattle.ooc_bags.proofs.Lists.{map-map}
 use Rattle.ooc_types.specs.Meets.{Meets}

@@ -2,7 +2,7 @@ use Rattle.std.proofs.Common.{◌≡◌, List, map, subst, sym, ap, ap₂, ◌�
 use Rattle.std.specs.Prelude.{IfOk}
 use Rattle.sql_expr.specs.declared.tree.Expr.{Expr}
 use Rattle.sql_meaning.specs.Found.{Found, Row, clean, if_clean}
-use Rattle.sql_meaning.specs.Groups.{Keyed, keyed, keys_of}
+use Rattle.sql_meaning.specs.Groups.{keyed, keys_of}
 use Rattle.sql_meaning.specs.Statements.{row_value_of}
 use Rattle.plain_rows.specs.Answers.{found_in}
 use Rattle.plain_groups.specs.declared.keyed.Keyed.{Keyed as OneKeyed}

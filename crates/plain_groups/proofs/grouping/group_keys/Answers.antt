@@ -1,9 +1,7 @@
 use Rattle.std.proofs.Common.{◌≡◌, length, map, sym, ◌∙◌, arith}
-use Rattle.sql_meaning.specs.Found.{Row}
-use Rattle.sql_meaning.specs.Groups.{group_faults, group_row, rows_of}
+use Rattle.sql_meaning.specs.Groups.{group_faults, rows_of}
 use Rattle.sql_meaning.specs.Statements.{aggregation_of}
 use Rattle.plain_groups.specs.Keys.{one_in}
-use Rattle.plain_groups.specs.Sums.{CanAggregate, FitsRows}
 use Rattle.std.specs.Prelude.{flat_map}
 use Rattle.std.proofs.lemmas.List.{nil_from_length}
 use Rattle.std.proofs.lemmas.Grind.{common_steps}

@@ -1,9 +1,9 @@
 use Rattle.std.proofs.Common.{◌∷◌, ◌++◌, [], map, ap, ◌∙◌, All}
 use Rattle.sql_meaning.specs.Found.{Row}
-use Rattle.sql_meaning.specs.Groups.{group_faults, group_row, rows_of}
+use Rattle.sql_meaning.specs.Groups.{group_row, rows_of}
 use Rattle.sql_meaning.specs.Statements.{aggregation_of}
 use Rattle.plain_groups.specs.Keys.{one_in}
-use Rattle.plain_groups.specs.Sums.{CanAggregate, FitsRows}
+use Rattle.plain_groups.specs.Sums.{CanAggregate}
 use Rattle.plain_rows.proofs.Collecting.{flat-next}
 use Rattle.plain_groups.proofs.Keying.{at-item}
 use Rattle.plain_groups.proofs.grouping.group_rows.Goals as goal

@@ -1,9 +1,8 @@
 use Rattle.std.proofs.Common.{map, All}
-use Rattle.sql_meaning.specs.Found.{Row}
-use Rattle.sql_meaning.specs.Groups.{group_faults, group_row, rows_of}
+use Rattle.sql_meaning.specs.Groups.{group_faults, rows_of}
 use Rattle.sql_meaning.specs.Statements.{aggregation_of}
 use Rattle.plain_groups.specs.Keys.{one_in}
-use Rattle.plain_groups.specs.Sums.{CanAggregate, FitsRows}
+use Rattle.plain_groups.specs.Sums.{FitsRows}
 use Rattle.plain_groups.proofs.Keying.{at-item, flat-behind}
 use Rattle.plain_groups.proofs.grouping.note_keys.Goals as goal
 

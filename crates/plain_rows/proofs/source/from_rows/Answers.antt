@@ -1,4 +1,4 @@
-use Rattle.std.proofs.Common.{◌+◌, List, ◌∷◌, map, drop, subst, sym, ap, ◌∙◌}
+use Rattle.std.proofs.Common.{◌+◌, List, map, drop, subst, sym, ap, ◌∙◌}
 use Rattle.sql_meaning.specs.Found.{and_then}
 use Rattle.sql_meaning.specs.From.{from_behind}
 use Rattle.plain_rows.specs.declared.source.Source.{Source}

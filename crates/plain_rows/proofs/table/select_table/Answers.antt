@@ -1,6 +1,5 @@
 use Rattle.std.proofs.Common.{map, subst, sym, ap, ◌∙◌}
 use Rattle.std.specs.Prelude.{◌≡◌, All, IfOk, List}
-use Rattle.std.specs.List.{AllByRecursion}
 use Rattle.ooc_types.specs.Meets.{Meets}
 use Rattle.sql_meaning.specs.Found.{Found, Row, if_clean}
 use Rattle.sql_meaning.specs.Select.{cut_found, projected}
