@@ -6,6 +6,7 @@ use Rattle.ooc_types.specs.Meets.{Meets}
 use Rattle.ooc_types.specs.declared.schema.SqlType.{SqlType}
 use Rattle.sql_expr.specs.declared.tree.Expr.{Expr}
 use Rattle.sql_meaning.specs.Found.{Row}
+use Rattle.sql_meaning.specs.Judged.{Condition}
 use Rattle.sql_meaning.specs.Statements.{condition_of}
 use Rattle.plain_rows.specs.declared.test.Test.{Test}
 use Rattle.plain_rows.specs.declared.test.Test.TheVariants as of
@@ -18,13 +19,17 @@ test-over : (columns : List SqlType) (test : Test) → ArePartsOver columns (par
 test-over columns (of.Condition expr) over = over
 test-over columns (of.Member expr values negated) over = over
 
-all-over : (columns : List SqlType) (tests : List Test) → AllByRecursion (ArePartsOver columns) (map parts_in tests) → AllByRecursion (IsTestOver columns) tests
+pub all-over : (columns : List SqlType) (tests : List Test) → AllByRecursion (ArePartsOver columns) (map parts_in tests) → AllByRecursion (IsTestOver columns) tests
 all-over columns [] all = tt
 all-over columns (test ∷ tests) all = (test-over columns test all.0, all-over columns tests all.1)
 
 pub of-map : {A B : Type 0} (P : B → Type 0) (f : A → B) (xs : List A) → AllByRecursion (λ x. P (f x)) xs → AllByRecursion P (map f xs)
 of-map P f [] all = tt
 of-map P f (x ∷ xs) all = (all.0, of-map P f xs all.1)
+
+pub from-map : {A B : Type 0} (P : B → Type 0) (f : A → B) (xs : List A) → AllByRecursion P (map f xs) → AllByRecursion (λ x. P (f x)) xs
+from-map P f [] all = tt
+from-map P f (x ∷ xs) all = (all.0, from-map P f xs all.1)
 
 -- tests that are made of what is typed over the columns of these rows can judge them
 pub made-ready : (limit : ℕ) (columns : List SqlType) (tests : List Test) (parts : List Parts) (rows : List Row) → map parts_in tests ≡ parts → AllByRecursion (ArePartsOver columns) parts
