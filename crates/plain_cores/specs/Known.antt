@@ -5,6 +5,7 @@ use Rattle.sql_expr.specs.declared.fault.ValueFault.{ValueFault}
 use Rattle.sql_expr.specs.declared.tree.Expr.{Expr}
 use Rattle.sql_expr.specs.Meaning.{value_of}
 use Rattle.sql_meaning.specs.Found.{Found, Row}
+use Rattle.sql_meaning.specs.Ordered.{value_at}
 use Rattle.sql_meaning.specs.Statements.{Meant, member_says, membership}
 use Rattle.plain_rows.specs.Tests.{Parts, parts_of, condition_by}
 use Rattle.plain_cores.specs.declared.known.Known.{Known}
@@ -29,3 +30,7 @@ member_meant negated found expr = record { condition = membership negated found 
 -- IN with these values, and the faults of its subquery
 abbrev pub member_of_values : Bool → List Value → Expr → List ValueFault → Meant
 member_of_values negated values expr faults = record { condition = record { plain = false; says = λ row. member_says negated values (value_of row expr) }; faults = faults }
+
+-- what IN is made of, with the rows that its subquery gave
+abbrev pub member_parts : Bool → List Row → Expr → Parts
+member_parts negated rows expr = record { of = expr; among = Some (record { values = map (value_at 0) rows; negated = negated }) }

@@ -3,7 +3,7 @@ ghost use Rattle.std.specs.Prelude.{◌≡◌, ◌++◌, IfOk, OnOk, flat_map, m
 ghost use Rattle.sql_meaning.specs.Ordered.{value_at};
 ghost use Rattle.plain_rows.specs.Answers.{found_in};
 ghost use Rattle.plain_rows.specs.Tests.{parts_in};
-ghost use Rattle.plain_cores.specs.Known.{faults_in, known_parts, meant_in, member_meant};
+ghost use Rattle.plain_cores.specs.Known.{faults_in, known_parts, meant_in, member_meant, member_parts};
 
 use ooc_types::{OutOfMemory, Row, Value};
 use plain_rows::{Answer, Test, add_faults};
@@ -51,7 +51,8 @@ pub fn member_over<'a>(
     negated: bool,
     answer: Answer,
 ) -> Result<Known<'a>, OutOfMemory>
-    ensures { IfOk result (λ known. meant_in known ≡ member_meant negated (found_in answer) of.now) }
+    ensures meant { IfOk result (λ known. meant_in known ≡ member_meant negated (found_in answer) of.now) }
+    ensures parts { IfOk result (λ known. known_parts known ≡ member_parts negated answer.rows.items of.now) }
 {
     let values = first_values(alloc, answer.rows.as_slice())?;
     Ok(Known::Member {
