@@ -1,5 +1,5 @@
 -- Conjuncts whose subqueries were answered, as the meaning has them.
-use Rattle.std.specs.Prelude.{Bool, false, List, [], Some}
+use Rattle.std.specs.Prelude.{Bool, false, List, [], map, Some}
 use Rattle.ooc_types.specs.declared.value.Value.{Value}
 use Rattle.sql_expr.specs.declared.fault.ValueFault.{ValueFault}
 use Rattle.sql_expr.specs.declared.tree.Expr.{Expr}

@@ -1,5 +1,5 @@
 -- A well-formed core over answered subqueries: each part of it is typed over the rows that come to it.
-use Rattle.std.proofs.Common.{◌≡◌, ℕ, suc, ◌+◌, ◌≤◌, min, Bool, true, false, cond, List, [], ◌∷◌, ◌++◌, take, length, map, refl, sym, subst, ap, ◌∙◌, arith, All, Option, Some, None, ℤ, pos}
+use Rattle.std.proofs.Common.{◌≡◌, ℕ, zero, suc, ◌+◌, ◌≤◌, ◌^◌, min, Bool, true, false, cond, List, [], ◌∷◌, ◌++◌, take, length, map, refl, sym, subst, ap, ◌∙◌, arith, All, Option, Some, None, ℤ, pos}
 use Rattle.std.specs.Option.{option_map}
 use Rattle.std.specs.Prelude.{IfSome, FitsSigned, flat_map, unwrap_or, nat_le, Ok, Err}
 use Rattle.std.specs.Int.{w32, w64, w128}
@@ -130,7 +130,7 @@ take-has P n [] all = subst (AllByRecursion P) (sym (take-none n)) tt
   where
     take-none : (n : ℕ) → take n [] ≡ []
     take-none n = grind (arith, common_steps)
-take-has P 0 (value ∷ values) all = tt
+take-has P zero (value ∷ values) all = tt
 take-has P (suc n) (value ∷ values) all = (all.0, take-has P n values all.1)
 
 sums-fit : (limit : ℕ) (argument : Option Expr) (result : SqlType) (values : List Value) → aggregate_type of.Sum (option_map kind_of argument) ≡ Some result → length values ≤ 10 ^ 11

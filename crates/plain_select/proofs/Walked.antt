@@ -1,5 +1,5 @@
 -- The parts of a statement that can be answered, and what they mean.
-use Rattle.std.proofs.Common.{◌≡◌, ℕ, ◌<◌, Bool, List, [], length, get_or, map, refl, sym, ap, ◌∙◌}
+use Rattle.std.proofs.Common.{◌≡◌, take, ◌++◌, ◌∷◌, ◌+◌, ℕ, ◌<◌, Bool, List, [], length, get_or, map, refl, sym, ap, ◌∙◌}
 use Rattle.ooc_types.specs.declared.schema.SqlType.{SqlType}
 use Rattle.bound_tree.specs.declared.kinds.SetKind.{SetKind}
 use Rattle.bound_tree.specs.declared.select.BoundCore.{BoundCore}
@@ -21,6 +21,7 @@ use Rattle.well_formed.specs.From.{IsSourceNode}
 use Rattle.well_formed.specs.Given.{Schemas}
 use Rattle.well_formed.specs.Rows.{AnyConjunct, AnyInput, IsRowsNode, IsSelectNode, IsWellFormedConjunct, IsWellFormedSource}
 use Rattle.well_formed.proofs.Parts.{core_held, from_held, input_held, part_held, rows_held, whole_held}
+use Rattle.plain_rows.proofs.Collecting.{take-next}
 use Rattle.plain_rows.proofs.Fitting.{all-at}
 use Rattle.plain_groups.proofs.Keying.{at-item}
 use Rattle.plain_cores.specs.declared.table.Table.{Table}
@@ -97,3 +98,14 @@ module _ (tables : Tables) where
   pub core-is : (core : BoundCore) → core_meaning tables core
       ≡ selected (core_of (map (conjunct_meaning tables) (out-BoundCore core).conjuncts) (out-BoundCore core).grouping (out-BoundCore core).items (out-BoundCore core).distinct) (map (source_meaning tables) (out-BoundCore core).sources)
   core-is core = ap (core_meaning tables) (sym (roll-out-BoundCore core)) ∙ core-out tables (out-BoundCore core)
+
+map-over : {A B : Type 0} (f : A → B) (xs ys : List A) → map f (xs ++ ys) ≡ map f xs ++ map f ys
+map-over f [] ys = refl
+map-over f (x ∷ xs) ys = ap (λ l. f x ∷ l) (map-over f xs ys)
+
+-- one item more
+pub map-next : {A B C : Type 0} (f : A → C) (g : B → C) (old new : List A) (y : A) (xs : List B) (i : ℕ) (x : B) → i < length xs → x ≡ get_or xs i x → new ≡ old ++ y ∷ [] → f y ≡ g x
+    → map f old ≡ map g (take i xs) → map f new ≡ map g (take (i + 1) xs)
+map-next f g old new y xs i x within is pushed same before =
+    ap (map f) pushed ∙ map-over f old (y ∷ []) ∙ ap (λ l. l ++ f y ∷ []) before ∙ ap (λ z. map g (take i xs) ++ z ∷ []) same
+    ∙ sym (map-over g (take i xs) (x ∷ [])) ∙ ap (map g) (sym (take-next xs i x within is))

@@ -2,7 +2,7 @@ use Rattle.std.proofs.Common.{◌≡◌, ◌+◌, List, map, rules, subst, sym, 
 use Rattle.bound_tree.specs.declared.select.BoundCore.{BoundCore}
 use Rattle.bound_tree.specs.declared.select.BoundSource.{BoundSource}
 use Rattle.bound_tree.specs.declared.select.Conjunct.{Conjunct}
-use Rattle.bound_tree.specs.declared.select.BoundRows.TheViews.{the_lemmas, out-BoundRows, out-BoundCore, out-Conjunct, out-SourceRows, outs-Core, outs-Set, outs-Member, outs-Query}
+use Rattle.bound_tree.specs.declared.select.BoundRows.TheViews.{the_lemmas, out-BoundRows, out-BoundSource, out-Conjunct, out-SourceRows, outs-Core, outs-Set, outs-Member, outs-Query}
 use Rattle.std.specs.Prelude.{IfOk}
 use Rattle.sql_meaning.specs.Found.{Found, Row}
 use Rattle.sql_meaning.specs.Statements.{select_meaning, source_meaning}
@@ -10,9 +10,9 @@ use Rattle.plain_cores.specs.Named.{tables_in}
 use Rattle.plain_cores.specs.Known.{known_parts, member_parts}
 use Rattle.plain_rows.specs.Froms.{source_in}
 use Rattle.plain_rows.specs.Tests.{Parts, parts_in}
-use Rattle.plain_select.specs.Settings.{CanAnswer, CanAnswerConjuncts, CanAnswerRows, CanAnswerSources, conjunct_parts_in, conjunct_parts, on_parts}
+use Rattle.plain_select.specs.Settings.{CanAnswer, CanAnswerConjuncts, CanAnswerRows, CanAnswerSources, conjunct_parts_in, conjunct_parts, on_parts, source_with}
 use Rattle.plain_select.proofs.CoreFitting.{can-core}
-use Rattle.plain_select.proofs.Walked.{conjunct-query, core-conjuncts, core-sources, input-query, rows-core, rows-left, rows-right, source-input, whole-rows}
+use Rattle.plain_select.proofs.Walked.{conjunct-query, core-conjuncts, core-sources, input-query, map-next, rows-core, rows-left, rows-right, source-input, source-is, whole-rows}
 use Rattle.plain_select.proofs.walk.+answer.Goals as goal
 
 pub answer_conjunct-answer_select-requires : goal.answer_conjunct-answer_select-requires
@@ -75,4 +75,14 @@ answer_sources-answer_input-requires t c =
     (search (rules, the_lemmas), source-input c.args.tables.now c.args.sources.now c.loop-source.source-index c.source-item.result c.loop-source-test.true c.source-item.is c.requires)
 
 pub answer_sources-loop-source-preserved : goal.answer_sources-loop-source-preserved
-answer_sources-loop-source-preserved t c = ?
+answer_sources-loop-source-preserved t c =
+    let named = tables_in c.args.tables.now in
+    let source = c.source-item.result in
+    let made = c.in_ok-source_over in
+    let is = made.ensures.source ∙ ap (source_with (out-BoundSource source)) c.in_ok-found.ensures ∙ sym (source-is named source) in
+    record {
+      sources = map-next source_in (source_meaning named) c.loop-source.made.items c.push.new.self.items made.field-0 c.args.sources.now c.loop-source.source-index source c.loop-source-test.true c.source-item.is
+          c.in_ok-push.ensures.items is c.loop-source.invariant.sources;
+      on = map-next (λ source. map parts_in source.on.items) on_parts c.loop-source.made.items c.push.new.self.items made.field-0 c.args.sources.now c.loop-source.source-index source c.loop-source-test.true c.source-item.is
+          c.in_ok-push.ensures.items made.ensures.on c.loop-source.invariant.on;
+    }
