@@ -1,14 +1,13 @@
 -- A well-formed core over answered subqueries: each part of it is typed over the rows that come to it.
-use Rattle.std.proofs.Common.{◌≡◌, ℕ, zero, suc, ◌+◌, ◌≤◌, ◌^◌, min, Bool, true, false, cond, List, [], ◌∷◌, ◌++◌, take, length, map, refl, sym, subst, ap, ◌∙◌, arith, All, Option, Some, None, ℤ, pos}
+use Rattle.std.proofs.Common.{◌≡◌, ℕ, zero, suc, ◌≤◌, ◌^◌, Bool, true, false, cond, List, [], ◌∷◌, ◌++◌, take, length, map, refl, sym, subst, ap, ◌∙◌, arith, All, Option, Some, None, ℤ}
 use Rattle.std.specs.Option.{option_map}
-use Rattle.std.specs.Prelude.{IfSome, FitsSigned, flat_map, unwrap_or, nat_le, Ok, Err}
+use Rattle.std.specs.Prelude.{IfSome, FitsSigned, unwrap_or, nat_le}
 use Rattle.std.specs.Int.{w32, w64, w128}
 use Rattle.std.specs.List.{AllByRecursion}
 use Rattle.std.proofs.lemmas.Int.{ints}
-use Rattle.std.proofs.lemmas.Grind.{common_steps}
 use Rattle.std.proofs.lemmas.List.{length-take}
 use Rattle.ooc_decimal.specs.Numeric.{scale_of}
-use Rattle.ooc_types.specs.Meets.{HasForm, IsNumberOf, Meets}
+use Rattle.ooc_types.specs.Meets.{HasForm, Meets}
 use Rattle.ooc_types.specs.declared.schema.SqlType.{SqlType}
 use Rattle.ooc_types.specs.declared.schema.SqlType.TheVariants.{Boolean, Integer, BigInt, HugeInt, Decimal, Date, Varchar}
 use Rattle.ooc_types.specs.declared.value.Value.{Value}
@@ -30,18 +29,17 @@ use Rattle.sql_expr.specs.declared.tree.Expr.{Expr}
 use Rattle.sql_expr.specs.Kinds.{kind_of}
 use Rattle.sql_expr.specs.Typing.{IsTyped}
 use Rattle.sql_meaning.specs.Aggregates.{state_of, sum_value}
-use Rattle.sql_meaning.specs.Found.{Found, Row, and_then, clean, if_clean, unless_faulted}
+use Rattle.sql_meaning.specs.Found.{Row, and_then, clean, if_clean, unless_faulted}
 use Rattle.sql_meaning.specs.From.{Source as MeantSource, from_rows}
-use Rattle.sql_meaning.specs.Groups.{Keyed, group_faults, keyed, keys_of, most_rows, rows_of, values_taken}
+use Rattle.sql_meaning.specs.Groups.{group_faults, keyed, keys_of, most_rows, rows_of, values_taken}
 use Rattle.sql_meaning.specs.Judged.{Condition, kept}
 use Rattle.sql_meaning.specs.Select.{below_having, perhaps_grouped}
-use Rattle.sql_meaning.specs.Statements.{Tables, aggregation_of, argument_scale, grouping_of, row_value_of, source_meaning, takes_once}
-use Rattle.plan_tree.proofs.JoinLemmas.{all-on}
+use Rattle.sql_meaning.specs.Statements.{Tables, aggregation_of, grouping_of, row_value_of, source_meaning, takes_once}
 use Rattle.well_formed.specs.Aggregates.{IsAggregate, IsGrouping, aggregate_type}
 use Rattle.well_formed.specs.Cores.{IsConjunct, IsConjunctIn, IsCoreNode}
 use Rattle.well_formed.specs.Exprs.{IsCondition, IsExpr}
 use Rattle.well_formed.specs.From.{AreJoined, IsSourceNode}
-use Rattle.well_formed.specs.Given.{Schemas, kinds_below_items, kinds_of_group, kinds_of_source, kinds_of_sources}
+use Rattle.well_formed.specs.Given.{kinds_below_items, kinds_of_group, kinds_of_source, kinds_of_sources}
 use Rattle.well_formed.specs.Rows.{AnyConjunct, AnyInput, IsRowsNode, IsSelectNode, IsWellFormedSource}
 use Rattle.well_formed.proofs.Parts.{core_held, core_here}
 use Rattle.bound_laws.specs.Meeting.{IsRow, IsValue}
@@ -51,19 +49,19 @@ use Rattle.bound_laws.proofs.GroupLemmas.{CountsFew, append-empty, fit-arguments
 use Rattle.bound_laws.proofs.RowLemmas.{source-rows}
 use Rattle.bound_laws.proofs.ValueRows.{meet-on}
 use Rattle.plain_rows.specs.declared.source.Source.{Source}
-use Rattle.plain_rows.specs.Froms.{CanJoin, IsSourceBehind, source_in}
-use Rattle.plain_rows.specs.Tests.{FitsItem, Parts, parts_in, parts_of}
+use Rattle.plain_rows.specs.Froms.{CanJoin, source_in}
+use Rattle.plain_rows.specs.Tests.{parts_in, parts_of}
 use Rattle.plain_rows.proofs.Fitting.{all-at, each, items-fit, kept-has}
 use Rattle.plain_groups.specs.Arguments.{FitsArgument}
 use Rattle.plain_groups.specs.Grouped.{CanGroup}
 use Rattle.plain_groups.specs.Sums.{CanAggregate, FitsRows, HasSums}
 use Rattle.plain_cores.specs.declared.known.Known.{Known}
 use Rattle.plain_cores.specs.declared.table.Table.{Table}
-use Rattle.plain_cores.specs.Cores.{ArePartsOver, CanCore, CanFilter, CanShow, conditions_of, core_in, having_exprs}
+use Rattle.plain_cores.specs.Cores.{ArePartsOver, CanCore, conditions_of, core_in, having_exprs}
 use Rattle.plain_cores.specs.Known.{known_parts}
 use Rattle.plain_cores.specs.Named.{tables_in}
 use Rattle.plain_select.specs.Settings.{CanAnswerCore, conjunct_parts, conjunct_parts_in, on_parts}
-use Rattle.plain_cores.proofs.Tested.{all-over, from-map, of-map}
+use Rattle.plain_cores.proofs.Tested.{all-over, from-map}
 
 row-meets : (limit : ℕ) (columns : List SqlType) (row : Row) → IsRow limit columns row → Meets limit columns row
 row-meets limit columns row is = meet-on (IsValue limit) (HasForm limit) (λ k v h. h.form) columns row is
@@ -126,10 +124,8 @@ total-fits limit kind scale None is = tt
 total-fits limit kind scale (Some digits) is = number-fits limit kind digits scale is
 
 take-has : (P : Value → Type 0) (n : ℕ) (values : List Value) → AllByRecursion P values → AllByRecursion P (take n values)
-take-has P n [] all = subst (AllByRecursion P) (sym (take-none n)) tt
-  where
-    take-none : (n : ℕ) → take n [] ≡ []
-    take-none n = grind (arith, common_steps)
+take-has P zero [] all = tt
+take-has P (suc n) [] all = tt
 take-has P zero (value ∷ values) all = tt
 take-has P (suc n) (value ∷ values) all = (all.0, take-has P n values all.1)
 

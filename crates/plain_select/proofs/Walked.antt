@@ -8,11 +8,10 @@ use Rattle.bound_tree.specs.declared.select.BoundSelect.{BoundSelect}
 use Rattle.bound_tree.specs.declared.select.BoundSource.{BoundSource}
 use Rattle.bound_tree.specs.declared.select.Conjunct.{Conjunct}
 use Rattle.bound_tree.specs.declared.select.SourceRows.{SourceRows}
-use Rattle.bound_tree.specs.declared.select.BoundRows.TheOpen.{BoundCore-F, BoundRows-F, BoundSource-F, Conjunct-F, SourceRows-F}
-use Rattle.bound_tree.specs.declared.select.BoundRows.TheViews.{out-BoundRows, out-Conjunct, out-SourceRows, out-BoundCore, out-BoundSelect, out-BoundSource, roll-BoundRows, roll-Conjunct, roll-SourceRows, roll-BoundSource, roll-out-BoundRows, roll-out-Conjunct, roll-out-SourceRows, roll-out-BoundCore, roll-out-BoundSource}
+use Rattle.bound_tree.specs.declared.select.BoundRows.TheOpen.{BoundRows-F, Conjunct-F, SourceRows-F}
+use Rattle.bound_tree.specs.declared.select.BoundRows.TheViews.{out-BoundRows, out-Conjunct, out-SourceRows, out-BoundCore, out-BoundSelect, out-BoundSource, roll-BoundRows, roll-Conjunct, roll-SourceRows, roll-out-BoundRows, roll-out-Conjunct, roll-out-SourceRows, roll-out-BoundCore, roll-out-BoundSource}
 use Rattle.sql_expr.specs.declared.tree.Expr.{Expr}
-use Rattle.sql_meaning.specs.Found.{Found, Row, clean}
-use Rattle.sql_meaning.specs.From.{Source}
+use Rattle.sql_meaning.specs.Found.{clean}
 use Rattle.sql_meaning.specs.Select.{selected}
 use Rattle.sql_meaning.specs.Statements.{Meant, Tables, condition_of, conjunct_meaning, core_meaning, core_of, rows_meaning, select_meaning, set_found, source_meaning, source_rows_meaning, times_of}
 use Rattle.sql_meaning.proofs.TablesLemmas.{conjunct-out, core-out, rows-out, source-out, source_rows-out}

@@ -1,5 +1,5 @@
 -- What a SELECT can be answered over: well-formed statements, and tables that meet their schemas.
-use Rattle.std.specs.Prelude.{◌≡◌, ℕ, List, map, length, Some}
+use Rattle.std.specs.Prelude.{ℕ, List, map, length, Some}
 use Rattle.std.specs.List.{AllByRecursion}
 use Rattle.bound_tree.specs.declared.select.BoundCore.{BoundCore}
 use Rattle.bound_tree.specs.declared.select.BoundRows.{BoundRows}

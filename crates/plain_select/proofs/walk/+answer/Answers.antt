@@ -1,7 +1,4 @@
-use Rattle.std.proofs.Common.{◌≡◌, ◌+◌, List, map, rules, subst, sym, ap, ap₂, ◌∙◌}
-use Rattle.bound_tree.specs.declared.select.BoundCore.{BoundCore}
-use Rattle.bound_tree.specs.declared.select.BoundSource.{BoundSource}
-use Rattle.bound_tree.specs.declared.select.Conjunct.{Conjunct}
+use Rattle.std.proofs.Common.{◌≡◌, List, map, rules, subst, sym, ap, ◌∙◌}
 use Rattle.bound_tree.specs.declared.select.BoundRows.TheViews.{the_lemmas, out-BoundRows, out-BoundSource, out-Conjunct, out-SourceRows, outs-Core, outs-Set, outs-Member, outs-Query}
 use Rattle.std.specs.Prelude.{IfOk}
 use Rattle.sql_meaning.specs.Found.{Found, Row}
