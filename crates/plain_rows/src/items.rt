@@ -13,7 +13,7 @@ use sql_expr::{EvalFault, Expr, eval};
 use std::alloc::Global;
 
 /// The values of expressions over a row, or the first fault.
-pub(crate) fn values_of(alloc: Global, items: &[Expr], row: &[Value]) -> Result<Row, EvalFault>
+pub fn values_of(alloc: Global, items: &[Expr], row: &[Value]) -> Result<Row, EvalFault>
     requires { All (FitsItem row.now) items.now }
     ensures { Told (values (map row_value_of items.now) row.now) result }
 {

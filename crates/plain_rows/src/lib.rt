@@ -17,7 +17,7 @@ mod test;
 pub use answer::Answer;
 pub use cut::{cut_answer, cut_rows};
 pub use distinct::distinct_rows;
-pub use items::project;
+pub use items::{project, values_of};
 pub use judging::judge;
 pub use kept::kept_rows;
 pub use order::order_rows;
