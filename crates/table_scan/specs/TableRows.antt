@@ -23,8 +23,8 @@ abbrev pub rows_ahead : {Page Pin : Type 0} → PoolTerms Page Pin → RowSet Pa
 rows_ahead t set cursor = values_of (rest_rows t set cursor)
 
 -- a set of a table with columns of these types, which can be read
-pub record IsReadable {Page Pin : Type 0} (t : PoolTerms Page Pin) (a : PoolView Page Pin) (kinds : List SqlType) (set : RowSet Page) : Type 0 where
+pub record IsReadable {Page Pin : Type 0} (t : PoolTerms Page Pin) (a : PoolView Page Pin) (columns : List SqlType) (set : RowSet Page) : Type 0 where
   pub formed : Formed t set
   pub here : IsHere a set
   pub alone : NoRowPins t a set
-  pub kinds : set.kinds ≡ kinds
+  pub kinds : set.kinds ≡ columns

@@ -1,5 +1,6 @@
 //! Rows in order, and a part of them.
 ghost use Rattle.std.specs.Prelude.{◌≡◌, min};
+ghost use Rattle.sql_meaning.specs.Ordered.{limited};
 ghost use Rattle.table_scan.specs.Outcomes.{ShowsCut, ShowsPart};
 
 use crate::fault::SelectFault;
@@ -45,7 +46,7 @@ fn print_part(
 
 // The first rows of a list, or all of them.
 fn first_rows(limit: Option<u128>, rows: &[Row]) -> &[Row]
-    ensures { result.now ≡ Rattle.sql_meaning.specs.Ordered.limited limit rows.now }
+    ensures { result.now ≡ limited limit rows.now }
 {
     match limit {
         Some(limit) => &rows[..at_most(limit, rows.len())],

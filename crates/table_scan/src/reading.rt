@@ -1,7 +1,7 @@
 //! What is read of each row.
-ghost use Rattle.std.specs.Prelude.{◌≡◌, ◌++◌, IfOk, OnOk};
-ghost use Rattle.table_scan.specs.Scan.{condition_of_conjunct, conditions_among};
-ghost use Rattle.table_scan.specs.Typed.{AreTests};
+ghost use Rattle.std.specs.Prelude.{IfOk, OnOk};
+ghost use Rattle.table_scan.specs.Scan.{conditions_among};
+ghost use Rattle.table_scan.specs.Typed.{AddsTest, AreTests};
 
 use bound_tree::Conjunct;
 use ooc_types::{OutOfMemory, Schema, SqlType};
@@ -19,6 +19,19 @@ pub(crate) struct Reading<'a> {
     pub columns: &'a Schema,
 }
 
+// Adds the test of a conjunct without a subquery.
+fn add_test<'a>(conjunct: &'a Conjunct, into: &mut Vec<Test<'a>>) -> Result<(), OutOfMemory>
+    ensures { OnOk result (AddsTest into.old.items into.new.items conjunct.now) }
+{
+    match conjunct {
+        Conjunct::Condition(expr) => {
+            into.push(Test::Condition(expr))?;
+            Ok(())
+        }
+        Conjunct::Member { .. } => Ok(()),
+    }
+}
+
 /// The conditions among conjuncts as tests.
 pub(crate) fn tests_of<'a>(
     alloc: Global,
@@ -28,10 +41,7 @@ pub(crate) fn tests_of<'a>(
 {
     let mut tests = Vec::new(alloc);
     for conjunct in conjuncts {
-        match conjunct {
-            Conjunct::Condition(expr) => tests.push(Test::Condition(expr))?,
-            Conjunct::Member { .. } => {}
-        }
+        add_test(conjunct, &mut tests)?;
     }
     Ok(tests)
 }

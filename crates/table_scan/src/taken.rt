@@ -6,7 +6,7 @@ ghost use Rattle.script_says.specs.Selecting.{most_result};
 ghost use Rattle.sql_meaning.specs.Groups.{values};
 ghost use Rattle.sql_meaning.specs.Judged.{kept};
 ghost use Rattle.plain_rows.specs.Cores.{CanSelect};
-ghost use Rattle.table_scan.specs.Outcomes.{EndsScan, IsNoted};
+ghost use Rattle.table_scan.specs.Outcomes.{EndsPart, EndsScan, IsNoted};
 ghost use Rattle.table_scan.specs.Sink.{conditions_in, items_in, sink_of, take_one, unless_noted, with_row, with_values};
 
 use crate::cut::print_cut;
@@ -133,7 +133,7 @@ fn end_rows(
     cut: &Option<Cut>,
     taken: Taken,
 ) -> Result<Vec<u8>, SelectFault>
-    ensures { Rattle.table_scan.specs.Outcomes.EndsPart columns.now cut.now (sink_of taken) result }
+    ensures { EndsPart columns.now cut.now (sink_of taken) result }
 {
     let Taken {
         rows, text, limit, ..
