@@ -6,3 +6,4 @@ pub mod Scanning
 pub mod Parting
 pub mod WellFormed
 pub mod Resting
+pub mod Ending

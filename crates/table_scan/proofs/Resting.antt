@@ -8,7 +8,14 @@ use Rattle.row_sets.specs.Sets.{IsHere, NoRowPins, set_pages}
 use Rattle.row_sets.specs.declared.row_set.RowSet.{RowSet}
 use Rattle.table_scan.specs.declared.fault.SelectFault.{SelectFault}
 use Rattle.table_scan.specs.declared.fault.SelectFault.TheVariants as fault
-use Rattle.table_scan.specs.Outcomes.{HasCause}
+use Rattle.page_body.specs.Refusals.{CallFails}
+use Rattle.page_body.specs.declared.fault.PoolFault.{PoolFault}
+use Rattle.page_body.specs.declared.fault.PoolFault.TheVariants as pool
+use Rattle.sql_expr.specs.declared.fault.EvalFault.{EvalFault}
+use Rattle.sql_expr.specs.declared.fault.EvalFault.TheVariants as eval
+use Rattle.sql_meaning.specs.Found.{Row}
+use Rattle.sql_meaning.specs.Judged.{Condition}
+use Rattle.table_scan.specs.Outcomes.{HasCause, IsNoted, pool_fault, value_fault}
 
 module _ {Page Pin : Type 0} (t : PoolTerms Page Pin) where
   live-on : (a b : PoolView Page Pin) → Kept a b → (pages : List Page) → AllLive a pages → AllLive b pages
@@ -26,3 +33,19 @@ cause-later told first before now last (fault.Value value) cause low high = tt
 cause-later told first before now last fault.TooLarge cause low high = tt
 cause-later told first before now last (fault.Pool why) cause low high = call_fails told first before now last why cause low high
 cause-later told first before now last fault.OutOfMemory cause low high = tt
+
+-- ---- the faults of one row
+
+pub pool-cause : (told : Bool) (before now : ℕ) (why : PoolFault) → CallFails told before now why → HasCause told before now (pool_fault why)
+pool-cause told before now pool.Spill cause = cause
+pool-cause told before now (pool.Damaged damage) cause = cause
+pool-cause told before now pool.OutOfMemory cause = tt
+
+pub value-cause : (told : Bool) (before now : ℕ) (why : EvalFault) → HasCause told before now (value_fault why)
+value-cause told before now (eval.Fault value) = tt
+value-cause told before now eval.OutOfMemory = tt
+
+pub pool-noted : (conditions : List Condition) (rows : List Row) (why : PoolFault) → IsNoted conditions rows (pool_fault why)
+pool-noted conditions rows pool.Spill = tt
+pool-noted conditions rows (pool.Damaged damage) = tt
+pool-noted conditions rows pool.OutOfMemory = tt

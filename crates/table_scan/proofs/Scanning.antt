@@ -152,16 +152,16 @@ module _ (tables : Tables) where
 
 -- ---- faults go first
 
-fault-first : {A : Type 0} (cut : Option Cut) (columns : List Column) (rows : List Row) (found : Found Row) (fs : List ValueFault) (value : ValueFault) → Contains fs value
+fault-first : (A : Type 0) (cut : Option Cut) (columns : List Column) (rows : List Row) (found : Found Row) (fs : List ValueFault) (value : ValueFault) → Contains fs value
     → IsShown {A = A} (shown_of cut columns rows found fs) (Err (fault.Value value))
-fault-first cut columns rows found [] value noted = absurd (let within = noted.1 in omega (arith, within))
-fault-first cut columns rows found (first ∷ fs) value noted = noted
+fault-first A cut columns rows found [] value noted = absurd (let within = noted.1 in omega (arith, within))
+fault-first A cut columns rows found (first ∷ fs) value noted = noted
 
 cut-faults : (fs : List ValueFault) (rows : List Row) (value : ValueFault) → Contains fs value → Contains (unless_faulted fs (clean rows)).faults value
 cut-faults [] rows value noted = noted
 cut-faults (first ∷ fs) rows value noted = noted
 
-pub fault-shown : {A : Type 0} (cut : Option Cut) (columns : List Column) (found : Found Row) (value : ValueFault) → Contains found.faults value → IsShown {A = A} (shown_found cut columns found) (Err (fault.Value value))
-fault-shown {A} cut columns found value noted =
+pub fault-shown : (A : Type 0) (cut : Option Cut) (columns : List Column) (found : Found Row) (value : ValueFault) → Contains found.faults value → IsShown {A = A} (shown_found cut columns found) (Err (fault.Value value))
+fault-shown A cut columns found value noted =
     let after = cut_found (cut_of cut) found in
-    fault-first {A = A} cut columns (counted_rows (cut_of cut) found) after after.faults value (cut-faults found.faults (perhaps_cut (cut_of cut) found.rows) value noted)
+    fault-first A cut columns (counted_rows (cut_of cut) found) after after.faults value (cut-faults found.faults (perhaps_cut (cut_of cut) found.rows) value noted)

@@ -4,6 +4,8 @@ use Rattle.ooc_types.specs.declared.schema.Column.{Column}
 use Rattle.page_body.specs.Refusals.{CallFails}
 use Rattle.page_body.specs.declared.fault.PoolFault.{PoolFault}
 use Rattle.page_body.specs.declared.fault.PoolFault.TheVariants as pool
+use Rattle.sql_expr.specs.declared.fault.EvalFault.{EvalFault}
+use Rattle.sql_expr.specs.declared.fault.EvalFault.TheVariants as eval
 use Rattle.sql_expr.specs.declared.fault.ValueFault.{ValueFault}
 use Rattle.bound_tree.specs.declared.select.Cut.{Cut}
 use Rattle.result_print.specs.Printed.{block_text, header_text}
@@ -21,6 +23,10 @@ abbrev pub pool_fault : PoolFault → SelectFault
 pool_fault pool.Spill = fault.Pool pool.Spill
 pool_fault (pool.Damaged damage) = fault.Pool (pool.Damaged damage)
 pool_fault pool.OutOfMemory = fault.OutOfMemory
+
+abbrev pub value_fault : EvalFault → SelectFault
+value_fault (eval.Fault value) = fault.Value value
+value_fault eval.OutOfMemory = fault.OutOfMemory
 
 -- one of the pool comes only where its cause stands
 abbrev pub HasCause : Bool → ℕ → ℕ → SelectFault → Type 0

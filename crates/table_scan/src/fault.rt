@@ -4,7 +4,7 @@ ghost use Rattle.table_scan.specs.Outcomes as spec;
 
 use ooc_types::OutOfMemory;
 use page_body::PoolFault;
-use sql_expr::ValueFault;
+use sql_expr::{EvalFault, ValueFault};
 
 /// Why a SELECT shows nothing.
 #[derive(Clone, Copy, Debug, PartialEq, Eq)]
@@ -36,5 +36,15 @@ pub(crate) fn pool_fault(fault: PoolFault) -> SelectFault
     match fault {
         PoolFault::OutOfMemory => SelectFault::OutOfMemory,
         PoolFault::Spill | PoolFault::Damaged(_) => SelectFault::Pool(fault),
+    }
+}
+
+/// The fault of a SELECT of which a value can't be given.
+pub(crate) fn value_fault(fault: EvalFault) -> SelectFault
+    ensures { result ≡ spec.value_fault fault }
+{
+    match fault {
+        EvalFault::Fault(value) => SelectFault::Value(value),
+        EvalFault::OutOfMemory => SelectFault::OutOfMemory,
     }
 }

@@ -10,7 +10,7 @@ ghost use Rattle.table_scan.specs.Steps.{IsStep, IsLast};
 ghost use Rattle.table_scan.specs.TableRows.{IsReadable, rows_ahead, rows_of_set, rows_of_sets};
 ghost use Rattle.table_scan.specs.Typed.{IsReading};
 
-use crate::fault::{SelectFault, pool_fault};
+use crate::fault::{SelectFault, pool_fault, value_fault};
 use crate::reading::Reading;
 use crate::taken::{Taken, take_row};
 use ooc_types::Row;
@@ -45,7 +45,7 @@ fn take_next<P: Pages>(
     match cursor.next_row(alloc, pages, set, row) {
         Ok(Some(_)) => match take_row(alloc, reading, row, into) {
             Ok(()) => Ok(true),
-            Err(fault) => Err(fault),
+            Err(why) => Err(value_fault(why)),
         },
         Ok(None) => Ok(false),
         Err(fault) => Err(pool_fault(fault)),

@@ -6,7 +6,7 @@ ghost use Rattle.script_says.specs.Selecting.{most_result};
 ghost use Rattle.sql_meaning.specs.Groups.{values};
 ghost use Rattle.sql_meaning.specs.Judged.{kept};
 ghost use Rattle.plain_rows.specs.Cores.{CanSelect};
-ghost use Rattle.table_scan.specs.Outcomes.{EndsPart, EndsScan, IsNoted};
+ghost use Rattle.table_scan.specs.Outcomes.{EndsPart, EndsScan, IsNoted, value_fault};
 ghost use Rattle.table_scan.specs.Sink.{conditions_in, items_in, sink_of, take_one, unless_noted, with_row, with_values};
 
 use crate::cut::print_cut;
@@ -109,20 +109,19 @@ pub(crate) fn take_row(
     reading: &Reading<'_>,
     row: &Row,
     into: &mut Taken,
-) -> Result<(), SelectFault>
+) -> Result<(), EvalFault>
     requires { CanSelect reading.now.tests.items reading.now.items.now (row.now ∷ []) }
     ensures taken { OnOk result (sink_of into.new ≡ take_one (conditions_in reading.now) (items_in reading.now) row.now (sink_of into.old)) }
     ensures clean { OnOk result ((kept (conditions_in reading.now) (row.now ∷ [])).faults ≡ []) }
-    ensures noted { IfErr result (IsNoted (conditions_in reading.now) (row.now ∷ [])) }
+    ensures noted { IfErr result (λ fault. IsNoted (conditions_in reading.now) (row.now ∷ []) (value_fault fault)) }
 {
     match judge(reading.tests.as_slice(), row.as_slice()) {
         Ok(true) => match perhaps_items(alloc, reading, row, into) {
             Ok(()) => Ok(()),
-            Err(_) => Err(SelectFault::OutOfMemory),
+            Err(_) => Err(EvalFault::OutOfMemory),
         },
         Ok(false) => Ok(()),
-        Err(EvalFault::Fault(fault)) => Err(SelectFault::Value(fault)),
-        Err(EvalFault::OutOfMemory) => Err(SelectFault::OutOfMemory),
+        Err(fault) => Err(fault),
     }
 }
 
