@@ -1,19 +1,24 @@
 -- What a scan answers, behind its last row or at a fault.
 use Rattle.std.proofs.Common.{◌≡◌, ℕ, ◌+◌, Bool, true, false, true≢false, List, [], ◌∷◌, ◌++◌, length, refl, sym, ap, subst, ◌∙◌}
-use Rattle.std.specs.Prelude.{Option, Some, None, Result, Ok, Err, Vec, Contains, is_some}
+use Rattle.std.specs.Prelude.{Option, Some, None, Result, Ok, Err, Vec, Contains, is_some, map, IfErr}
 use Rattle.ooc_types.specs.declared.schema.Column.{Column}
 use Rattle.sql_expr.specs.declared.fault.ValueFault.{ValueFault}
 use Rattle.bound_tree.specs.declared.select.Cut.{Cut}
+use Rattle.bound_tree.specs.declared.select.BoundCore.{BoundCore}
+use Rattle.bound_tree.specs.declared.select.BoundRows.TheViews.{out-BoundCore}
 use Rattle.result_print.specs.Printed.{header_text}
 use Rattle.sql_meaning.specs.Found.{Found, Row, clean, if_clean}
 use Rattle.sql_meaning.specs.Judged.{Condition, RowValue, kept}
 use Rattle.sql_meaning.specs.Select.{projected}
+use Rattle.sql_meaning.specs.Statements.{condition_of, row_value_of}
 use Rattle.script_says.specs.Selecting.{Shown, most_result}
 use Rattle.table_scan.specs.declared.fault.SelectFault.{SelectFault}
 use Rattle.table_scan.specs.declared.fault.SelectFault.TheVariants as fault
-use Rattle.table_scan.specs.Outcomes.{Ends, EndsPart, EndsScan, IsNoted, IsShown, ShowsCut}
-use Rattle.table_scan.specs.Sets.{scanned, shown_found}
+use Rattle.table_scan.specs.Outcomes.{Ends, EndsPart, EndsScan, HasCause, IsNoted, IsShown, ShowsCut}
+use Rattle.table_scan.specs.Scan.{conditions_among}
+use Rattle.table_scan.specs.Sets.{ShowsSets, scanned, shown_found}
 use Rattle.table_scan.specs.Sink.{Sink, take_all}
+use Rattle.table_scan.proofs.Parting.{cut-shown}
 use Rattle.table_scan.proofs.Printing.{ends-shown}
 use Rattle.table_scan.proofs.Scanning.{fault-shown}
 use Rattle.table_scan.proofs.Summing.{HasMade, HasRows, Sums, clean-faults, scan-clean, scan-faults, sums-all, sums-none}
@@ -36,7 +41,7 @@ made-shown : (A : Type 0) (columns : List Column) (cut : Option Cut) (orders : B
 made-shown A columns None true made now result ordered room has ends = absurd (true≢false ordered)
 made-shown A columns None false made now result ordered room has ends = ends-shown columns made now.text result has (subst (λ (n : ℕ). Ends n now.text result) room ends)
 made-shown A columns (Some cut) false made now result ordered room has ends = absurd (true≢false (sym ordered))
-made-shown A columns (Some cut) true made now result ordered room has ends = subst (λ (l : List Row). ShowsCut columns cut l result) has ends
+made-shown A columns (Some cut) true made now result ordered room has ends = cut-shown columns cut made result (subst (λ (l : List Row). ShowsCut columns cut l result) has ends)
 
 module _ (A : Type 0) (columns : List Column) (cut : Option Cut) (conditions : List Condition) (items : List RowValue) (rows : List Row) (orders : Bool) (now : Sink) (result : Result (Vec ℕ A) SelectFault)
     (ordered : orders ≡ is_some cut) (none : (kept conditions rows).faults ≡ []) (room : now.limit ≡ length (header_text columns) + most_result) where
@@ -61,3 +66,27 @@ scan-ends A columns cut conditions items rows orders start now result ordered be
     let first = subst (Sums items orders limit header []) (sym begins) (sums-none items orders limit header) in
     let sums = subst (Sums items orders limit header (kept conditions rows).rows) (sym taken) (sums-all items limit header orders conditions [] rows start none first) in
     by-fault A columns cut conditions items rows orders now result ordered none sums.limit_is now.fault sums.made ends
+
+-- ---- no end has a fault of the pool
+
+part-cause : (A : Type 0) (told : Bool) (before now : ℕ) (columns : List Column) (cut : Option Cut) (sink : Sink) (why : SelectFault) → EndsPart {A = A} columns cut sink (Err why) → HasCause told before now why
+part-cause A told before now columns cut sink (fault.Value value) ends = tt
+part-cause A told before now columns cut sink fault.TooLarge ends = tt
+part-cause A told before now columns None sink (fault.Pool why) ends = absurd ends
+part-cause A told before now columns (Some cut) sink (fault.Pool why) ends = absurd ends
+part-cause A told before now columns cut sink fault.OutOfMemory ends = tt
+
+pub ends-cause : (A : Type 0) (told : Bool) (before now : ℕ) (columns : List Column) (cut : Option Cut) (noted : Option ValueFault) (sink : Sink) (result : Result (Vec ℕ A) SelectFault)
+    → EndsScan columns cut noted sink result → IfErr result (HasCause told before now)
+ends-cause A told before now columns cut None sink (Ok whole) ends = tt
+ends-cause A told before now columns cut None sink (Err why) ends = part-cause A told before now columns cut sink why ends
+ends-cause A told before now columns cut (Some value) sink result ends = subst (λ (r : Result (Vec ℕ A) SelectFault). IfErr r (HasCause told before now)) (sym ends) tt
+
+-- ---- the core of a SELECT
+
+pub core-shown : (A : Type 0) (core : BoundCore) (columns : List Column) (cut : Option Cut) (conditions : List Condition) (items : List RowValue) (rows : List Row) (result : Result (Vec ℕ A) SelectFault)
+    → conditions ≡ map condition_of (conditions_among (out-BoundCore core).conjuncts) → items ≡ map row_value_of (out-BoundCore core).items
+    → IsShown (shown_found cut columns (scanned conditions items rows)) result → ShowsSets core columns cut rows result
+core-shown A core columns cut conditions items rows result conditions_are items_are shows =
+    subst (λ (is : List RowValue). IsShown (shown_found cut columns (scanned (map condition_of (conditions_among (out-BoundCore core).conjuncts)) is rows)) result) items_are
+    (subst (λ (cs : List Condition). IsShown (shown_found cut columns (scanned cs items rows)) result) conditions_are shows)

@@ -9,10 +9,11 @@ use Rattle.bound_tree.specs.declared.select.Cut.{Cut}
 use Rattle.result_print.specs.Printed.{block_text}
 use Rattle.sql_meaning.specs.Found.{Row, clean}
 use Rattle.sql_meaning.specs.Ordered.{limited, row_cmp, sorted}
-use Rattle.sql_meaning.specs.Statements.{key_of}
+use Rattle.sql_meaning.specs.Select.{perhaps_cut, up_to}
+use Rattle.sql_meaning.specs.Statements.{cut_of, key_of}
 use Rattle.plain_rows.proofs.Collecting.{drop-whole}
 use Rattle.script_says.specs.Block.{Exactly}
-use Rattle.script_says.specs.Selecting.{Shown, Shows, TooLarge, lines_length, most_result}
+use Rattle.script_says.specs.Selecting.{Shown, Shows, TooLarge, lines_length, most_result, shown_rows}
 use Rattle.table_scan.specs.declared.fault.SelectFault.{SelectFault}
 use Rattle.table_scan.specs.declared.fault.SelectFault.TheVariants as fault
 use Rattle.table_scan.specs.Outcomes.{IsShown, ShowsCut, ShowsPart}
@@ -54,16 +55,21 @@ shown-part columns skipped rows (Err fault.OutOfMemory) shows = tt
 shown-part {A} columns skipped rows (Err fault.TooLarge) shows = subst (λ (b : Bool). IsShown {A = A} (if b then TooLarge else Shows (Exactly (block_text columns rows))) (Err fault.TooLarge)) (sym shows) tt
 shown-part columns skipped rows (Ok whole) shows = subst (λ (b : Bool). IsShown (if b then TooLarge else Shows (Exactly (block_text columns rows))) (Ok whole)) (sym shows.0) shows.1
 
-pub cut-shown : {A : Type 0} (columns : List Column) (cut : Cut) (rows all skipped shown : List Row) (o : ℕ) (result : Result (Vec ℕ A) SelectFault)
+pub cut-parts : {A : Type 0} (columns : List Column) (cut : Cut) (rows all skipped shown : List Row) (o : ℕ) (result : Result (Vec ℕ A) SelectFault)
     → all ≡ sorted (row_cmp (map key_of cut.keys)) rows → o ≡ min (unwrap_or cut.offset 0) (length all) → skipped ≡ take o all → shown ≡ limited cut.limit (drop o all)
     → ShowsPart columns skipped shown result → ShowsCut columns cut rows result
-cut-shown {A} columns cut rows all skipped shown o result ordered place first rest shows =
+cut-parts columns cut rows all skipped shown o result ordered place first rest shows =
     let offset = unwrap_or cut.offset 0 in
     let xs = sorted (row_cmp (map key_of cut.keys)) rows in
     let same = at-least all offset o place in
     let part : shown ≡ limited cut.limit (drop offset xs) = rest ∙ ap (limited cut.limit) same.1 ∙ ap (λ (l : List Row). limited cut.limit (drop offset l)) ordered in
     let front : skipped ≡ take offset xs = first ∙ same.0 ∙ ap (take offset) ordered in
-    let all_counted : skipped ++ shown ≡ limited (option_map (λ n. offset + n) cut.limit) xs = ap₂ (λ (l k : List Row). l ++ k) front part ∙ counted offset cut.limit xs in
-    subst (λ (l : List Row). IsShown {A = A} (if nat_lt most_result (lines_length l) then TooLarge else Shows (Exactly (block_text columns (limited cut.limit (drop offset xs))))) result) all_counted
-    (subst (λ (l : List Row). IsShown {A = A} (if nat_lt most_result (lines_length (skipped ++ shown)) then TooLarge else Shows (Exactly (block_text columns l))) result) part
-    (shown-part columns skipped shown result shows))
+    subst (λ (l : List Row). ShowsPart columns l (limited cut.limit (drop offset xs)) result) front (subst (λ (l : List Row). ShowsPart columns skipped l result) part shows)
+
+pub cut-shown : {A : Type 0} (columns : List Column) (cut : Cut) (rows : List Row) (result : Result (Vec ℕ A) SelectFault) → ShowsCut columns cut rows result
+    → IsShown (shown_rows (Some cut) columns (up_to (cut_of (Some cut)) rows) (clean (perhaps_cut (cut_of (Some cut)) rows))) result
+cut-shown {A} columns cut rows result shows =
+    let offset = unwrap_or cut.offset 0 in
+    let xs = sorted (row_cmp (map key_of cut.keys)) rows in
+    subst (λ (l : List Row). IsShown {A = A} (if nat_lt most_result (lines_length l) then TooLarge else Shows (Exactly (block_text columns (limited cut.limit (drop offset xs))))) result) (counted offset cut.limit xs)
+    (shown-part columns (take offset xs) (limited cut.limit (drop offset xs)) result shows)

@@ -1,5 +1,6 @@
 -- Tests that are conditions.
 use Rattle.std.proofs.Common.{◌≡◌, ℕ, ◌+◌, ◌<◌, ◌≤◌, List, [], ◌∷◌, ◌++◌, take, get_or, length, map, refl, sym, ap, ap₂, subst, ◌∙◌, append-nil, arith}
+use Rattle.std.specs.Prelude.{Option, Some, None, IfSome}
 use Rattle.std.specs.List.{AllByRecursion}
 use Rattle.std.proofs.lemmas.Grind.{flat_map-append}
 use Rattle.ooc_types.specs.Meets.{Meets}
@@ -71,3 +72,7 @@ row-fits reading kinds limit row same typed meets = record {
   judged = typed.tests;
   shown = typed.items;
 }
+
+pub meets-some : (limit : ℕ) (kinds : List SqlType) (row : Row) (o : Option ℕ) (hash : ℕ) → o ≡ Some hash → IfSome o (λ _. Meets limit kinds row) → Meets limit kinds row
+meets-some limit kinds row None hash e has = cc
+meets-some limit kinds row (Some other) hash e has = has

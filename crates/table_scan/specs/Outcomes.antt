@@ -1,5 +1,5 @@
 -- What a scan answers, and the causes.
-use Rattle.std.specs.Prelude.{◌≡◌, ℕ, nat_lt, Bool, true, false, if◌then◌else◌, List, [], ◌∷◌, ◌++◌, length, Option, Some, None, Result, Ok, Err, Vec, Contains, ⊤}
+use Rattle.std.specs.Prelude.{◌≡◌, ℕ, nat_lt, Bool, true, false, if◌then◌else◌, List, [], ◌∷◌, ◌++◌, length, Option, Some, None, Result, Ok, Err, Vec, Contains, map, take, unwrap_or, ⊤}
 use Rattle.ooc_types.specs.declared.schema.Column.{Column}
 use Rattle.page_body.specs.Refusals.{CallFails}
 use Rattle.page_body.specs.declared.fault.PoolFault.{PoolFault}
@@ -9,12 +9,13 @@ use Rattle.sql_expr.specs.declared.fault.EvalFault.TheVariants as eval
 use Rattle.sql_expr.specs.declared.fault.ValueFault.{ValueFault}
 use Rattle.bound_tree.specs.declared.select.Cut.{Cut}
 use Rattle.result_print.specs.Printed.{block_text, header_text}
-use Rattle.sql_meaning.specs.Found.{Row, clean}
+use Rattle.sql_meaning.specs.Found.{Row}
 use Rattle.sql_meaning.specs.Judged.{Condition, kept}
-use Rattle.sql_meaning.specs.Select.{perhaps_cut, up_to}
-use Rattle.sql_meaning.specs.Statements.{cut_of}
+use Rattle.sql_meaning.specs.Ordered.{row_cmp, sorted}
+use Rattle.sql_meaning.specs.Select.{perhaps_cut}
+use Rattle.sql_meaning.specs.Statements.{cut_of, key_of}
 use Rattle.script_says.specs.Block.{Block, IsPrinted}
-use Rattle.script_says.specs.Selecting.{Shown, Shows, Faulted, TooLarge, lines_length, most_result, shown_rows}
+use Rattle.script_says.specs.Selecting.{Shown, Shows, Faulted, TooLarge, lines_length, most_result}
 use Rattle.table_scan.specs.declared.fault.SelectFault.{SelectFault}
 use Rattle.table_scan.specs.declared.fault.SelectFault.TheVariants as fault
 use Rattle.table_scan.specs.Sink.{Sink}
@@ -74,7 +75,7 @@ ShowsPart columns skipped rows (Ok whole) = (nat_lt most_result (lines_length (s
 
 -- of rows in order those that are left, or the lines of those that count are too many bytes
 abbrev pub ShowsCut : {A : Type 0} → List Column → Cut → List Row → Result (Vec ℕ A) SelectFault → Type 0
-ShowsCut columns cut rows result = IsShown (shown_rows (Some cut) columns (up_to (cut_of (Some cut)) rows) (clean (perhaps_cut (cut_of (Some cut)) rows))) result
+ShowsCut columns cut rows result = ShowsPart columns (take (unwrap_or cut.offset 0) (sorted (row_cmp (map key_of cut.keys)) rows)) (perhaps_cut (cut_of (Some cut)) rows) result
 
 -- the end of a scan: the first fault of an item, or what the rows show
 abbrev pub EndsPart : {A : Type 0} → List Column → Option Cut → Sink → Result (Vec ℕ A) SelectFault → Type 0

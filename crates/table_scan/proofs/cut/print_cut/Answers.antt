@@ -3,14 +3,14 @@ use Rattle.std.specs.Prelude.{min}
 use Rattle.sql_meaning.specs.Found.{Row}
 use Rattle.sql_meaning.specs.Ordered.{limited, row_cmp, sorted}
 use Rattle.sql_meaning.specs.Statements.{key_of}
-use Rattle.table_scan.proofs.Parting.{cut-shown, rest-whole}
+use Rattle.table_scan.proofs.Parting.{cut-parts, rest-whole}
 use Rattle.table_scan.proofs.cut.print_cut.Goals as goal
 
 pub returns : goal.returns
 returns c =
     let all = c.as_slice-all.result.now in
     let o = c.at_most-offset.result in
-    cut-shown c.args.columns.now c.args.cut.now c.args.rows.now all (take o all) c.first_rows-shown.result.now o c.print_part.result
+    cut-parts c.args.columns.now c.args.cut.now c.args.rows.now all (take o all) c.first_rows-shown.result.now o c.print_part.result
     (c.as_slice-all.ensures.value ∙ c.in_ok-ordered.ensures ∙ ap (λ ks. sorted (row_cmp (map key_of ks)) c.args.rows.now) c.as_slice.ensures)
     (c.at_most-offset.ensures ∙ ap (λ (n : ℕ). min n (length all)) c.unwrap_or.ensures)
     refl
