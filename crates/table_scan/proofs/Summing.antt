@@ -49,11 +49,11 @@ found-fault items rows row fault is =
 
 -- ---- what came of the rows that are kept
 
-abbrev HasRows : Bool → ℕ → List ℕ → List Row → Sink → Type 0
+abbrev pub HasRows : Bool → ℕ → List ℕ → List Row → Sink → Type 0
 HasRows true limit header made sink = sink.rows ≡ made
 HasRows false limit header made sink = LinesSoFar limit header made sink.text
 
-abbrev HasMade : List RowValue → Bool → ℕ → List ℕ → List Row → Option ValueFault → Sink → Type 0
+abbrev pub HasMade : List RowValue → Bool → ℕ → List ℕ → List Row → Option ValueFault → Sink → Type 0
 HasMade items orders limit header rows None sink = (made : List Row) × (projected items rows ≡ clean made) × HasRows orders limit header made sink
 HasMade items orders limit header rows (Some fault) sink = Contains (projected items rows).faults fault
 

@@ -1,4 +1,6 @@
 use Rattle.std.proofs.Common.{◌≡◌, List, map, ap, sym, subst, ◌∙◌}
+use Rattle.std.specs.Prelude.{Err}
+use Rattle.std.specs.declared.alloc.Global.{Global}
 use Rattle.std.specs.List.{AllByRecursion}
 use Rattle.ooc_types.specs.declared.schema.SqlType.{SqlType}
 use Rattle.sql_expr.specs.declared.tree.Expr.{Expr}
@@ -38,15 +40,15 @@ returns-in-Ok-clause-shows g c = λ told.
     let rows = rows_of_sets g.P.Pages.terms c.args.sets.now in
     let columns = c.args.columns.now in
     let cut = c.args.cut.now in
-    core-shown _ c.args.core.now columns cut conditions items rows c.end_scan.result
+    core-shown Global c.args.core.now columns cut conditions items rows c.end_scan.result
     (as-conditions tests (conditions_among c.as_slice-3.result.now) c.in_ok-tests_of.ensures ∙ ap (λ (cs : List Conjunct). map condition_of (conditions_among cs)) c.as_slice-3.ensures)
     (ap (map row_value_of) c.as_slice-4.ensures)
-    (scan-ends _ columns cut conditions items rows c.is_some.result (sink_of c.in_ok-taken.taken) (sink_of c.take_sets.new.into) c.end_scan.result c.is_some.ensures c.in_ok-taken.ensures
+    (scan-ends Global columns cut conditions items rows c.is_some.result (sink_of c.in_ok-taken.taken) (sink_of c.take_sets.new.into) c.end_scan.result c.is_some.ensures c.in_ok-taken.ensures
     (c.in-Ok.ensures.taken told) (c.in-Ok.ensures.clean told) c.end_scan.ensures)
 
 pub returns-in-Ok-clause-cause : goal.returns-in-Ok-clause-cause
 returns-in-Ok-clause-cause g c =
-    ends-cause _ g.P.Pages.terms.told (g.P.Pages.view c.args.pages.now).faults (g.P.Pages.view c.take_sets.new.pages).faults c.args.columns.now c.args.cut.now c.take_sets.new.into.fault (sink_of c.take_sets.new.into) c.end_scan.result
+    ends-cause Global g.P.Pages.terms.told (g.P.Pages.view c.args.pages.now).faults (g.P.Pages.view c.take_sets.new.pages).faults c.args.columns.now c.args.cut.now c.take_sets.new.into.fault (sink_of c.take_sets.new.into) c.end_scan.result
     c.end_scan.ensures
 
 pub returns-clause-shows : goal.returns-clause-shows
@@ -57,7 +59,7 @@ returns-clause-shows g c = λ told.
     let rows = rows_of_sets g.P.Pages.terms c.args.sets.now in
     let columns = c.args.columns.now in
     let cut = c.args.cut.now in
-    core-shown _ c.args.core.now columns cut conditions items rows _
+    core-shown Global c.args.core.now columns cut conditions items rows (Err c.in-Err.fault)
     (as-conditions tests (conditions_among c.as_slice-3.result.now) c.in_ok-tests_of.ensures ∙ ap (λ (cs : List Conjunct). map condition_of (conditions_among cs)) c.as_slice-3.ensures)
     (ap (map row_value_of) c.as_slice-4.ensures)
-    (scan-fails _ cut columns conditions items rows c.in-Err.fault (c.in-Err.ensures.noted told))
+    (scan-fails Global cut columns conditions items rows c.in-Err.fault (c.in-Err.ensures.noted told))
