@@ -1,5 +1,5 @@
 -- What a scan answers, behind its last row or at a fault.
-use Rattle.std.proofs.Common.{◌≡◌, ℕ, ◌+◌, Bool, true, false, true≢false, List, [], ◌∷◌, ◌++◌, length, refl, sym, ap, subst, ◌∙◌}
+use Rattle.std.proofs.Common.{◌≡◌, ℕ, ◌+◌, Bool, true, false, true≢false, List, [], length, sym, ap, subst, ◌∙◌}
 use Rattle.std.specs.Prelude.{Option, Some, None, Result, Ok, Err, Vec, Contains, is_some, map, IfErr}
 use Rattle.ooc_types.specs.declared.schema.Column.{Column}
 use Rattle.sql_expr.specs.declared.fault.ValueFault.{ValueFault}

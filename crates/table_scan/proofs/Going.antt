@@ -1,6 +1,6 @@
 -- The rows that were taken so far, and those that are ahead.
-use Rattle.std.proofs.Common.{◌≡◌, ℕ, zero, suc, ◌+◌, ◌<◌, ◌≤◌, List, [], ◌∷◌, ◌++◌, take, drop, get_or, length, map, refl, sym, ap, ap₂, subst, ◌∙◌, append-nil, append_assoc, arith}
-use Rattle.std.specs.Prelude.{flat_map, slice_index_or, Contains}
+use Rattle.std.proofs.Common.{◌≡◌, ℕ, zero, suc, ◌+◌, ◌<◌, ◌≤◌, List, [], ◌∷◌, ◌++◌, drop, get_or, length, refl, sym, ap, ap₂, subst, ◌∙◌, append-nil, append_assoc, arith}
+use Rattle.std.specs.Prelude.{slice_index_or, Contains}
 use Rattle.std.proofs.lemmas.Grind.{flat_map-append}
 use Rattle.sql_expr.specs.declared.fault.ValueFault.{ValueFault}
 use Rattle.sql_meaning.specs.Found.{Row}
@@ -13,7 +13,7 @@ use Rattle.table_scan.specs.declared.fault.SelectFault.TheVariants as fault
 use Rattle.table_scan.specs.declared.reading.Reading.{Reading}
 use Rattle.table_scan.specs.Outcomes.{IsNoted}
 use Rattle.table_scan.specs.Sink.{Sink, conditions_in, items_in, take_all, take_one}
-use Rattle.table_scan.specs.Steps.{IsLast, IsStep}
+use Rattle.table_scan.specs.Steps.{IsStep}
 use Rattle.table_scan.specs.TableRows.{rows_of_set, rows_of_sets}
 
 -- ---- lists of faults

@@ -1,8 +1,7 @@
 -- Rows in order, and a part of them.
-use Rattle.std.proofs.Common.{◌≡◌, ℕ, zero, suc, ◌+◌, ◌-◌, ◌≤◌, ◌<◌, Bool, true, false, List, [], ◌∷◌, ◌++◌, length, map, take, drop, refl, sym, ap, ap₂, subst, ◌∙◌, length-drop, arith}
+use Rattle.std.proofs.Common.{◌≡◌, ℕ, zero, suc, ◌+◌, ◌-◌, Bool, List, [], ◌∷◌, ◌++◌, length, map, take, drop, refl, sym, ap, subst, ◌∙◌, length-drop, arith}
 use Rattle.std.specs.Prelude.{nat_lt, if◌then◌else◌, min, Option, Some, None, Result, Ok, Err, Vec, unwrap_or}
 use Rattle.std.specs.Option.{option_map}
-use Rattle.std.proofs.lemmas.Grind.{common_steps}
 use Rattle.std.proofs.lemmas.List.{take-append-drop, take_all}
 use Rattle.ooc_types.specs.declared.schema.Column.{Column}
 use Rattle.bound_tree.specs.declared.select.Cut.{Cut}
@@ -11,9 +10,8 @@ use Rattle.sql_meaning.specs.Found.{Row, clean}
 use Rattle.sql_meaning.specs.Ordered.{limited, row_cmp, sorted}
 use Rattle.sql_meaning.specs.Select.{perhaps_cut, up_to}
 use Rattle.sql_meaning.specs.Statements.{cut_of, key_of}
-use Rattle.plain_rows.proofs.Collecting.{drop-whole}
 use Rattle.script_says.specs.Block.{Exactly}
-use Rattle.script_says.specs.Selecting.{Shown, Shows, TooLarge, lines_length, most_result, shown_rows}
+use Rattle.script_says.specs.Selecting.{Shows, TooLarge, lines_length, most_result, shown_rows}
 use Rattle.table_scan.specs.declared.fault.SelectFault.{SelectFault}
 use Rattle.table_scan.specs.declared.fault.SelectFault.TheVariants as fault
 use Rattle.table_scan.specs.Outcomes.{IsShown, ShowsCut, ShowsPart}

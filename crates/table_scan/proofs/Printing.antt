@@ -1,25 +1,20 @@
 -- Lines that were printed, as many as a limit allows.
-use Rattle.std.proofs.Common.{◌≡◌, ◌⊎◌, inl, inr, ℕ, zero, suc, ◌+◌, ◌-◌, ◌<◌, ◌≤◌, Bool, true, false, true≢false, List, [], ◌∷◌, ◌++◌, length, map, take, drop, refl, sym, ap, ap₂, subst, ◌∙◌, append-nil, append_assoc, length-append, arith}
-use Rattle.std.specs.Prelude.{flat_map, nat_lt, if◌then◌else◌, min, Option, Some, None, Result, Ok, Err, Vec, unwrap_or}
-use Rattle.std.specs.Option.{option_map}
+use Rattle.std.proofs.Common.{◌≡◌, ◌⊎◌, inl, inr, ℕ, ◌+◌, ◌-◌, ◌<◌, ◌≤◌, Bool, true, false, true≢false, List, [], ◌∷◌, ◌++◌, length, refl, sym, ap, ap₂, subst, ◌∙◌, append-nil, append_assoc, length-append, arith}
+use Rattle.std.specs.Prelude.{flat_map, nat_lt, if◌then◌else◌, None, Result, Ok, Err, Vec}
 use Rattle.std.proofs.lemmas.Grind.{flat_map-append}
-use Rattle.std.proofs.lemmas.List.{take-append-drop}
 use Rattle.std.proofs.lemmas.List.Concat.{length-flat_map}
 use Rattle.std.proofs.lemmas.List.Sums.{sum-map}
 use Rattle.std.proofs.lemmas.Bool.{lt-ltb, le-ltb}
 use Rattle.std.proofs.lemmas.Bool.Decides.{leb_tells}
 use Rattle.ooc_types.specs.declared.schema.Column.{Column}
-use Rattle.bound_tree.specs.declared.select.Cut.{Cut}
 use Rattle.ooc_bags.proofs.Bags.{bag-refl}
 use Rattle.result_print.specs.Printed.{block_text, header_text, row_text}
 use Rattle.sql_meaning.specs.Found.{Row, clean}
-use Rattle.sql_meaning.specs.Ordered.{limited, row_cmp, sorted}
-use Rattle.sql_meaning.specs.Statements.{key_of}
-use Rattle.script_says.specs.Block.{Block, Exactly, InAnyOrder}
-use Rattle.script_says.specs.Selecting.{Shown, Shows, Faulted, TooLarge, lines_length, most_result, shown_rows}
+use Rattle.script_says.specs.Block.{InAnyOrder}
+use Rattle.script_says.specs.Selecting.{Shows, TooLarge, lines_length, most_result, shown_rows}
 use Rattle.table_scan.specs.declared.fault.SelectFault.{SelectFault}
 use Rattle.table_scan.specs.declared.fault.SelectFault.TheVariants as fault
-use Rattle.table_scan.specs.Outcomes.{Ends, IsShown, ShowsCut, ShowsPart}
+use Rattle.table_scan.specs.Outcomes.{Ends, IsShown, ShowsPart}
 use Rattle.table_scan.specs.Sink.{line_behind, lines_behind}
 
 -- ---- tests on numbers
@@ -86,6 +81,7 @@ so-far-next limit before rows text row so_far = by (nat_lt limit (length text)) 
   where
     longer : limit < length before + lines_length rows → limit < length before + lines_length (rows ++ row ∷ [])
     longer past = let more = lines-append rows (row ∷ []) in omega (arith, past, more)
+
     by : (b : Bool) → ((b ≡ true) × (limit < length text)) ⊎ ((b ≡ false) × (length text ≤ limit)) → LinesSoFar limit before rows text → LinesSoFar limit before (rows ++ row ∷ []) (if b then text else text ++ row_text row)
     by true (inl h) (inl is) = inr (h.1, longer (let past = h.1 in let long = whole-long before text rows is in omega (arith, past, long)))
     by true (inl h) (inr past) = inr (past.0, longer past.1)

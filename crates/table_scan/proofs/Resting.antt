@@ -1,5 +1,5 @@
 -- Sets while others are read.
-use Rattle.std.proofs.Common.{◌≡◌, ℕ, ◌≤◌, List, [], ◌∷◌, sym, ◌∙◌, Bool, arith}
+use Rattle.std.proofs.Common.{ℕ, ◌≤◌, List, [], ◌∷◌, sym, ◌∙◌, Bool}
 use Rattle.page_body.specs.View.{PoolTerms, PoolView}
 use Rattle.page_body.specs.Keeps.{Kept}
 use Rattle.page_body.specs.PageLists.{AllLive}

@@ -1,6 +1,6 @@
 -- What a SELECT over one table means, over the rows of the table.
-use Rattle.std.proofs.Common.{◌≡◌, ℕ, Bool, true, false, true≢false, List, [], ◌∷◌, ◌++◌, length, map, refl, sym, ap, ap₂, subst, ◌∙◌, arith}
-use Rattle.std.specs.Prelude.{flat_map, not, ◌&&◌, Option, Some, None, Result, Ok, Err, Vec, Contains}
+use Rattle.std.proofs.Common.{◌≡◌, ℕ, Bool, true, false, true≢false, List, [], ◌∷◌, ◌++◌, length, map, refl, sym, ap, ap₂, ◌∙◌, arith}
+use Rattle.std.specs.Prelude.{flat_map, not, ◌&&◌, Option, Some, None, Err, Contains}
 use Rattle.std.specs.List.{list_all}
 use Rattle.ooc_types.specs.declared.schema.Column.{Column}
 use Rattle.sql_expr.specs.declared.fault.ValueFault.{ValueFault}
@@ -15,21 +15,20 @@ use Rattle.bound_tree.specs.declared.select.BoundSelect.{BoundSelect}
 use Rattle.bound_tree.specs.declared.select.BoundSource.{BoundSource}
 use Rattle.bound_tree.specs.declared.select.Conjunct.{Conjunct}
 use Rattle.bound_tree.specs.declared.select.SourceRows.{SourceRows}
-use Rattle.bound_tree.specs.declared.select.BoundRows.TheOpen.{BoundCore-F, BoundRows-F, BoundSelect-F, BoundSource-F, Conjunct-F, SourceRows-F}
+use Rattle.bound_tree.specs.declared.select.BoundRows.TheOpen.{BoundRows-F, Conjunct-F, SourceRows-F}
 use Rattle.bound_tree.specs.declared.select.BoundRows.TheFolds.{fold_out-BoundCore, fold_out-BoundRows, fold_out-BoundSource, fold_out-Conjunct, fold_out-SourceRows, map-BoundRows, map-Conjunct, map-SourceRows}
 use Rattle.bound_tree.specs.declared.select.BoundRows.TheViews.{out-BoundCore, out-BoundRows, out-BoundSelect, out-BoundSource, out-Conjunct, out-SourceRows}
-use Rattle.sql_meaning.specs.Found.{Found, Row, clean, if_clean, unless_faulted}
+use Rattle.sql_meaning.specs.Found.{Found, Row, clean, unless_faulted}
 use Rattle.sql_meaning.specs.From.{Source}
-use Rattle.sql_meaning.specs.Judged.{Condition, RowValue, kept}
-use Rattle.sql_meaning.specs.Select.{Core, counted_rows, cut_found, perhaps_cut, projected, selected}
+use Rattle.sql_meaning.specs.Judged.{Condition, RowValue}
+use Rattle.sql_meaning.specs.Select.{Core, counted_rows, cut_found, perhaps_cut, selected}
 use Rattle.sql_meaning.specs.Statements.{Tables, Meant, condition_of, row_value_of, pads_of, core_of, cut_of, rows_step, conjunct_step, source_rows_step, core_step, select_step, source_step, rows_meaning, select_meaning, conjunct_meaning, source_rows_meaning, core_meaning, source_meaning}
 use Rattle.sql_meaning.proofs.TablesLemmas.{select-is}
 use Rattle.plain_rows.proofs.OneTable.{table-selected}
-use Rattle.script_says.specs.Selecting.{Shown, Faulted, shown, shown_of}
-use Rattle.table_scan.specs.declared.fault.SelectFault.{SelectFault}
+use Rattle.script_says.specs.Selecting.{shown, shown_of}
 use Rattle.table_scan.specs.declared.fault.SelectFault.TheVariants as fault
 use Rattle.table_scan.specs.Outcomes.{IsShown}
-use Rattle.table_scan.specs.Scan.{condition_in_node, condition_of_conjunct, conditions_among, conditions_of_core, core_in, core_of_select, has_none, is_condition, is_condition_in, is_first, is_first_table, is_one_table, is_scan_core, is_scan_of, is_table_in, is_ungrouped, items_of_core, table_in, table_of_core, table_of_sources}
+use Rattle.table_scan.specs.Scan.{condition_in_node, conditions_among, core_in, core_of_select, has_none, is_condition, is_condition_in, is_first, is_first_table, is_one_table, is_scan_core, is_table_in, is_ungrouped, table_in, table_of_sources}
 use Rattle.table_scan.specs.Sets.{core_scanned, scanned, shown_found}
 
 pub both-true : (a b : Bool) → (a && b) ≡ true → (a ≡ true) × (b ≡ true)

@@ -1,6 +1,6 @@
 -- What came of the rows, and what their result is meant to be.
-use Rattle.std.proofs.Common.{◌≡◌, ℕ, ◌+◌, Bool, true, false, true≢false, List, [], ◌∷◌, ◌++◌, length, map, refl, sym, ap, ap₂, subst, ◌∙◌, append-nil, append_assoc, arith}
-use Rattle.std.specs.Prelude.{flat_map, Option, Some, None, Result, Ok, Err, Contains}
+use Rattle.std.proofs.Common.{◌≡◌, ℕ, Bool, true, false, List, [], ◌∷◌, ◌++◌, refl, sym, ap, ap₂, subst, ◌∙◌, append-nil, append_assoc, arith}
+use Rattle.std.specs.Prelude.{Option, Some, None, Result, Ok, Err, Contains}
 use Rattle.std.proofs.lemmas.Grind.{flat_map-append}
 use Rattle.sql_expr.specs.declared.fault.ValueFault.{ValueFault}
 use Rattle.sql_meaning.specs.Found.{Found, Row, clean, if_clean, unless_faulted}

@@ -1,14 +1,11 @@
 -- Tests that are conditions.
-use Rattle.std.proofs.Common.{◌≡◌, ℕ, ◌+◌, ◌<◌, ◌≤◌, List, [], ◌∷◌, ◌++◌, take, get_or, length, map, refl, sym, ap, ap₂, subst, ◌∙◌, append-nil, arith}
+use Rattle.std.proofs.Common.{◌≡◌, ℕ, ◌+◌, ◌<◌, ◌≤◌, List, [], ◌∷◌, ◌++◌, take, get_or, length, map, refl, sym, ap, ap₂, subst, ◌∙◌, append-nil}
 use Rattle.std.specs.Prelude.{Option, Some, None, IfSome}
 use Rattle.std.specs.List.{AllByRecursion}
 use Rattle.std.proofs.lemmas.Grind.{flat_map-append}
 use Rattle.ooc_types.specs.Meets.{Meets}
 use Rattle.ooc_types.specs.declared.schema.SqlType.{SqlType}
-use Rattle.ooc_types.specs.declared.schema.SqlType.TheVariants.{Boolean}
 use Rattle.sql_expr.specs.declared.tree.Expr.{Expr}
-use Rattle.sql_expr.specs.Kinds.{kind_of}
-use Rattle.sql_expr.specs.Typing.{IsTyped}
 use Rattle.bound_tree.specs.declared.select.Conjunct.{Conjunct}
 use Rattle.sql_meaning.specs.Found.{Row}
 use Rattle.sql_meaning.specs.Judged.{Condition}

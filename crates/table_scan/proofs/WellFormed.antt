@@ -1,6 +1,6 @@
 -- A well-formed SELECT over one table can be scanned.
-use Rattle.std.proofs.Common.{◌≡◌, ℕ, Bool, true, false, true≢false, List, [], ◌∷◌, ◌++◌, refl, sym, ap, subst, ◌∙◌, append-nil}
-use Rattle.std.specs.Prelude.{not, ◌&&◌, Option, Some, None, ⊤}
+use Rattle.std.proofs.Common.{◌≡◌, ℕ, true, true≢false, List, [], ◌∷◌, ◌++◌, refl, sym, ap, subst, ◌∙◌, append-nil}
+use Rattle.std.specs.Prelude.{not, ◌&&◌, Option, Some, None}
 use Rattle.std.specs.List.{AllByRecursion, list_all}
 use Rattle.ooc_types.specs.declared.schema.SqlType.{SqlType}
 use Rattle.sql_expr.specs.declared.tree.Expr.{Expr}
@@ -12,11 +12,11 @@ use Rattle.bound_tree.specs.declared.select.BoundSelect.{BoundSelect}
 use Rattle.bound_tree.specs.declared.select.BoundSource.{BoundSource}
 use Rattle.bound_tree.specs.declared.select.Conjunct.{Conjunct}
 use Rattle.bound_tree.specs.declared.select.SourceRows.{SourceRows}
-use Rattle.bound_tree.specs.declared.select.BoundRows.TheOpen.{BoundCore-F, BoundRows-F, BoundSelect-F, Conjunct-F}
+use Rattle.bound_tree.specs.declared.select.BoundRows.TheOpen.{BoundRows-F, BoundSelect-F, Conjunct-F}
 use Rattle.bound_tree.specs.declared.select.BoundRows.TheFolds.{every_here-BoundCore, every_held-BoundRows, every_held-BoundSelect, map-BoundRows}
-use Rattle.bound_tree.specs.declared.select.BoundRows.TheViews.{out-BoundCore, out-BoundRows, out-BoundSelect, out-Conjunct}
+use Rattle.bound_tree.specs.declared.select.BoundRows.TheViews.{out-BoundCore, out-BoundSelect, out-Conjunct}
 use Rattle.well_formed.specs.Cores.{IsConjunct, IsConjunctIn, IsCoreNode}
-use Rattle.well_formed.specs.Exprs.{IsCondition, IsExpr}
+use Rattle.well_formed.specs.Exprs.{IsExpr}
 use Rattle.well_formed.specs.From.{IsSourceNode}
 use Rattle.well_formed.specs.Given.{Schemas, kinds_below_items}
 use Rattle.well_formed.specs.Given.{kinds_of_sources as kinds_of_all}

@@ -1,5 +1,5 @@
 -- What a scan answers, and the causes.
-use Rattle.std.specs.Prelude.{◌≡◌, ℕ, nat_lt, Bool, true, false, if◌then◌else◌, List, [], ◌∷◌, ◌++◌, length, Option, Some, None, Result, Ok, Err, Vec, Contains, map, take, unwrap_or, ⊤}
+use Rattle.std.specs.Prelude.{◌≡◌, ℕ, nat_lt, Bool, true, false, List, [], ◌∷◌, ◌++◌, length, Option, Some, None, Result, Ok, Err, Vec, Contains, map, take, unwrap_or, ⊤}
 use Rattle.ooc_types.specs.declared.schema.Column.{Column}
 use Rattle.page_body.specs.Refusals.{CallFails}
 use Rattle.page_body.specs.declared.fault.PoolFault.{PoolFault}
@@ -8,13 +8,13 @@ use Rattle.sql_expr.specs.declared.fault.EvalFault.{EvalFault}
 use Rattle.sql_expr.specs.declared.fault.EvalFault.TheVariants as eval
 use Rattle.sql_expr.specs.declared.fault.ValueFault.{ValueFault}
 use Rattle.bound_tree.specs.declared.select.Cut.{Cut}
-use Rattle.result_print.specs.Printed.{block_text, header_text}
+use Rattle.result_print.specs.Printed.{block_text}
 use Rattle.sql_meaning.specs.Found.{Row}
 use Rattle.sql_meaning.specs.Judged.{Condition, kept}
 use Rattle.sql_meaning.specs.Ordered.{row_cmp, sorted}
 use Rattle.sql_meaning.specs.Select.{perhaps_cut}
 use Rattle.sql_meaning.specs.Statements.{cut_of, key_of}
-use Rattle.script_says.specs.Block.{Block, IsPrinted}
+use Rattle.script_says.specs.Block.{IsPrinted}
 use Rattle.script_says.specs.Selecting.{Shown, Shows, Faulted, TooLarge, lines_length, most_result}
 use Rattle.table_scan.specs.declared.fault.SelectFault.{SelectFault}
 use Rattle.table_scan.specs.declared.fault.SelectFault.TheVariants as fault

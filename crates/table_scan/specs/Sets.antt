@@ -1,7 +1,6 @@
 -- What a core shows over rows.
-use Rattle.std.specs.Prelude.{◌≡◌, ℕ, List, [], ◌∷◌, map, Option, Result, Vec}
+use Rattle.std.specs.Prelude.{ℕ, List, map, Option, Result, Vec}
 use Rattle.ooc_types.specs.declared.schema.Column.{Column}
-use Rattle.sql_expr.specs.declared.tree.Expr.{Expr}
 use Rattle.bound_tree.specs.declared.select.Cut.{Cut}
 use Rattle.bound_tree.specs.declared.select.BoundCore.{BoundCore}
 use Rattle.bound_tree.specs.declared.select.BoundRows.TheViews.{out-BoundCore}

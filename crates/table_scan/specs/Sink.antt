@@ -1,8 +1,7 @@
 -- What came of the rows so far: rows that are to be ordered, or lines that were printed.
-use Rattle.std.specs.Prelude.{◌≡◌, ℕ, nat_lt, Bool, true, false, if◌then◌else◌, List, [], ◌∷◌, ◌++◌, map, length, Option, Some, None, Result, Ok, Err}
-use Rattle.ooc_types.specs.declared.schema.Column.{Column}
+use Rattle.std.specs.Prelude.{ℕ, nat_lt, Bool, true, false, if◌then◌else◌, List, [], ◌∷◌, ◌++◌, map, length, Option, Some, None, Result, Ok, Err}
 use Rattle.sql_expr.specs.declared.fault.ValueFault.{ValueFault}
-use Rattle.result_print.specs.Printed.{header_text, row_text}
+use Rattle.result_print.specs.Printed.{row_text}
 use Rattle.sql_meaning.specs.Found.{Row}
 use Rattle.sql_meaning.specs.Groups.{values}
 use Rattle.sql_meaning.specs.Judged.{Condition, RowValue, Verdict, judged, plain_first}

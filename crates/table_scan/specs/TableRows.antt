@@ -1,5 +1,5 @@
 -- The rows of sets, one set after another.
-use Rattle.std.specs.Prelude.{◌≡◌, List, [], ◌∷◌, ◌++◌, flat_map, map}
+use Rattle.std.specs.Prelude.{◌≡◌, List, flat_map, map}
 use Rattle.ooc_types.specs.declared.schema.SqlType.{SqlType}
 use Rattle.page_body.specs.View.{PoolTerms, PoolView}
 use Rattle.row_sets.specs.SetRows.{SetRow}

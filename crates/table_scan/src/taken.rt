@@ -35,11 +35,7 @@ pub(crate) struct Taken {
 }
 
 /// Before the first row.
-pub(crate) fn new_taken(
-    alloc: Global,
-    columns: &Schema,
-    orders: bool,
-) -> Result<Taken, OutOfMemory>
+pub(crate) fn new_taken(alloc: Global, columns: &Schema, orders: bool) -> Result<Taken, OutOfMemory>
     ensures { IfOk result (λ taken. sink_of taken
         ≡ record { fault = None; orders = orders; rows = []; text = header_text columns.now; limit = length (header_text columns.now) + most_result }) }
 {
@@ -135,7 +131,10 @@ fn end_rows(
     ensures { EndsPart columns.now cut.now (sink_of taken) result }
 {
     let Taken {
-        rows, text, limit, ..
+        rows,
+        text,
+        limit,
+        ..
     } = taken;
     match cut {
         Some(cut) => print_cut(alloc, columns, cut, rows.as_slice()),

@@ -1,6 +1,5 @@
-use Rattle.std.proofs.Common.{◌≡◌, ℕ, List, length, map, take, drop, refl, ap, sym, subst, ◌∙◌}
+use Rattle.std.proofs.Common.{ℕ, length, map, take, refl, ap, ◌∙◌}
 use Rattle.std.specs.Prelude.{min}
-use Rattle.sql_meaning.specs.Found.{Row}
 use Rattle.sql_meaning.specs.Ordered.{limited, row_cmp, sorted}
 use Rattle.sql_meaning.specs.Statements.{key_of}
 use Rattle.table_scan.proofs.Parting.{cut-parts, rest-whole}

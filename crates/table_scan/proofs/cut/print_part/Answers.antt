@@ -1,8 +1,6 @@
-use Rattle.std.proofs.Common.{◌≡◌, ◌+◌, ◌-◌, ◌++◌, ℕ, List, true, false, nat_lt, length, ap, ap₂, sym, subst, ◌∙◌, arith}
+use Rattle.std.proofs.Common.{◌≡◌, ◌+◌, ◌-◌, ◌++◌, ℕ, List, false, nat_lt, length, ap, ap₂, sym, ◌∙◌}
 use Rattle.result_print.specs.Printed.{header_text}
-use Rattle.sql_meaning.specs.Found.{Row}
 use Rattle.script_says.specs.Selecting.{most_result}
-use Rattle.table_scan.specs.Outcomes.{Ends}
 use Rattle.table_scan.specs.Sink.{lines_behind}
 use Rattle.table_scan.proofs.Printing.{part-ends, part-over}
 use Rattle.table_scan.proofs.cut.print_part.Goals as goal

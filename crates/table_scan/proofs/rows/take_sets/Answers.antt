@@ -1,7 +1,6 @@
 use Rattle.std.proofs.Common.{◌+◌, List, drop, refl, sym, subst}
 use Rattle.page_body.proofs.Kept.{kept_same, kept_then}
 use Rattle.row_sets.specs.Sets.{IsHere}
-use Rattle.row_sets.specs.declared.row_set.RowSet.{RowSet}
 use Rattle.sql_meaning.specs.Found.{Row}
 use Rattle.table_scan.specs.Outcomes.{IsNoted}
 use Rattle.table_scan.specs.Sink.{conditions_in, sink_of}
