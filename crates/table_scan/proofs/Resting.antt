@@ -31,14 +31,14 @@ module _ {Page Pin : Type 0} (t : PoolTerms Page Pin) where
 pub cause-later : (told : Bool) (first before now last : ℕ) (why : SelectFault) → HasCause told before now why → first ≤ before → now ≤ last → HasCause told first last why
 cause-later told first before now last (fault.Value value) cause low high = tt
 cause-later told first before now last fault.TooLarge cause low high = tt
-cause-later told first before now last (fault.Pool why) cause low high = call_fails told first before now last why cause low high
+cause-later told first before now last (fault.Pool why) cause low high = (cause.0, call_fails told first before now last why cause.1 low high)
 cause-later told first before now last fault.OutOfMemory cause low high = tt
 
 -- ---- the faults of one row
 
 pub pool-cause : (told : Bool) (before now : ℕ) (why : PoolFault) → CallFails told before now why → HasCause told before now (pool_fault why)
-pool-cause told before now pool.Spill cause = cause
-pool-cause told before now (pool.Damaged damage) cause = cause
+pool-cause told before now pool.Spill cause = ((λ e. cc), cause)
+pool-cause told before now (pool.Damaged damage) cause = ((λ e. cc), cause)
 pool-cause told before now pool.OutOfMemory cause = tt
 
 pub value-cause : (told : Bool) (before now : ℕ) (why : EvalFault) → HasCause told before now (value_fault why)

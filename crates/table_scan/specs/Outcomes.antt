@@ -1,5 +1,5 @@
 -- What a scan answers, and the causes.
-use Rattle.std.specs.Prelude.{◌≡◌, ℕ, nat_lt, Bool, true, false, List, [], ◌∷◌, ◌++◌, length, Option, Some, None, Result, Ok, Err, Vec, Contains, map, take, unwrap_or, ⊤}
+use Rattle.std.specs.Prelude.{◌≡◌, ◌≢◌, ℕ, nat_lt, Bool, true, false, List, [], ◌∷◌, ◌++◌, length, Option, Some, None, Result, Ok, Err, Vec, Contains, map, take, unwrap_or, ⊤}
 use Rattle.ooc_types.specs.declared.schema.Column.{Column}
 use Rattle.page_body.specs.Refusals.{CallFails}
 use Rattle.page_body.specs.declared.fault.PoolFault.{PoolFault}
@@ -29,11 +29,11 @@ abbrev pub value_fault : EvalFault → SelectFault
 value_fault (eval.Fault value) = fault.Value value
 value_fault eval.OutOfMemory = fault.OutOfMemory
 
--- one of the pool comes only where its cause stands
+-- one of the pool comes only where its cause stands; want of memory is told as such
 abbrev pub HasCause : Bool → ℕ → ℕ → SelectFault → Type 0
 HasCause told before now (fault.Value value) = ⊤
 HasCause told before now fault.TooLarge = ⊤
-HasCause told before now (fault.Pool why) = CallFails told before now why
+HasCause told before now (fault.Pool why) = (why ≢ pool.OutOfMemory) × CallFails told before now why
 HasCause told before now fault.OutOfMemory = ⊤
 
 -- what is meant to be shown, one of the faults that were noted, or want of a frame or of memory
