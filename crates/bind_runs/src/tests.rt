@@ -395,6 +395,54 @@ static OTHERS_REFUSED: [(&str, RefusalKind); 34] = [
     ),
 ];
 
+/// The kinds that stand seldom in the tables above: in subqueries, HAVING, IN lists, GROUP BY and behind set operations.
+static SELDOM_REFUSED: [(&str, RefusalKind); 14] = [
+    (
+        "SELECT z FROM (SELECT x FROM u CROSS JOIN u b CROSS JOIN u c CROSS JOIN u d CROSS JOIN u e CROSS JOIN u f CROSS JOIN u g CROSS JOIN u h JOIN ^u i ON y) AS s",
+        RefusalKind::TooManyTables,
+    ),
+    (
+        "SELECT z FROM u CROSS JOIN u b CROSS JOIN u c CROSS JOIN u d CROSS JOIN u e CROSS JOIN u f CROSS JOIN u g CROSS JOIN u h CROSS JOIN ^u i CROSS JOIN u j",
+        RefusalKind::TooManyTables,
+    ),
+    (
+        "SELECT 1 FROM t HAVING ^sum(9223372036854775808) > 0",
+        RefusalKind::SumTooWide,
+    ),
+    (
+        "SELECT ^sum(b * 170141183460469231731687303715884105727) FROM t",
+        RefusalKind::SumTooWide,
+    ),
+    (
+        "SELECT 1, ^sum(d * 12345678901234567890123.5) + z FROM t",
+        RefusalKind::SumTooWide,
+    ),
+    (
+        "SELECT z FROM t WHERE f IN (DATE '2024-01-01', DATE ^'2024-13-01', 1)",
+        RefusalKind::BadDate,
+    ),
+    ("SELECT DATE ^'24-01-01' FROM t", RefusalKind::BadDate),
+    ("SELECT z FROM t WHERE f < DATE ^''", RefusalKind::BadDate),
+    ("SELECT t.a, ^a FROM t CROSS JOIN u", RefusalKind::Ambiguous),
+    (
+        "SELECT a, b AS a FROM t UNION SELECT a, b FROM t ORDER BY ^A",
+        RefusalKind::Ambiguous,
+    ),
+    (
+        "SELECT z FROM t CROSS JOIN u GROUP BY ^A",
+        RefusalKind::Ambiguous,
+    ),
+    (
+        "SELECT z FROM t WHERE c IN ('abcd', ^'abcde')",
+        RefusalKind::TextTooLong,
+    ),
+    (
+        "SELECT c BETWEEN 'a' AND ^'abcde' FROM t",
+        RefusalKind::TextTooLong,
+    ),
+    ("SELECT ^'''''''''''' FROM t", RefusalKind::TextTooLong),
+];
+
 static STATEMENTS_BOUND: [(&str, &str); 6] = [
     (
         "CREATE TABLE \"N\" (A INT NOT NULL, b DECIMAL, C TEXT)",
@@ -603,6 +651,14 @@ fn other_selects_are_bound(rt: HostRuntime) -> Result<(), Fail> {
         let out = shown(rt.alloc(), script)?;
         assert!(rt; out.is_whole);
         assert_eq!(rt; out.text.as_str(), *expected, "at {script}");
+    }
+    Ok(())
+}
+
+#[test]
+fn seldom_kinds_are_refused(rt: HostRuntime) -> Result<(), Fail> {
+    for (marked, kind) in &SELDOM_REFUSED {
+        assert!(rt; is_refused(rt.alloc(), marked, *kind)?, "at {marked}");
     }
     Ok(())
 }

@@ -1,0 +1,13 @@
+mod EachLemmas
+mod TableLemmas
+mod CopyLemmas
+mod SetLemmas
+mod OrderLemmas
+mod TreeLemmas
+mod Facts
+mod NodeLemmas
+mod OperationLemmas
+mod GatherLemmas
+mod SourceLemmas
+mod JoinLemmas
+mod WhereLemmas

@@ -1,0 +1,6 @@
+pub mod Answers
+pub mod Named
+pub mod Covered
+pub mod Parts
+pub mod Sources
+pub mod Filters
