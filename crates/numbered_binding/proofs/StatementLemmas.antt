@@ -14,7 +14,8 @@ use Rattle.sql_grammar.specs.declared.tree.statement.Statement.TheVariants as st
 use Rattle.sql_scope.specs.declared.scope.TableColumns.{TableColumns}
 use Rattle.sql_scope.specs.Answer.{◌>>=◌, each}
 use Rattle.sql_scope.specs.Scopes.{View}
-use Rattle.sql_clauses.specs.Copies.{copied, copy_table, no_options, option_behind, text_of}
+use Rattle.sql_clauses.specs.Copies.{copied, copy_table, no_options, option_behind}
+use Rattle.sql_clauses.specs.Names.{text_of}
 use Rattle.sql_clauses.specs.Tables.{column_behind, create_table, drop_table, dropped, known_table, most_columns, new_table, table_of}
 use Rattle.bind_rules.specs.Bound.{bound_of, bound_over, explained, select_binding, selected_rows, view_of}
 use Rattle.numbered_binding.specs.Kept.{OfAnswer}

@@ -116,7 +116,7 @@ conjuncts-kept view (Some condition) have =
     on-answer IsFilter (AllByRecursion AreNumberedConjunct) (condition.test.filter view) (ended condition.place) (have.filter view) (λ all h. ended-kept condition.place all h)
 
 none-joined : (sources : Sources) → AreFew sources → AreJoined (begun sources)
-none-joined sources are = record { numbered = tt; left = are.numbered; few = are.few }
+none-joined sources are = record { numbered = tt; left = are.numbered; few = let f = are.few in omega arith }
 
 filtered-kept : (view : View) (joins : List JoinBinding) (filter : Option ConditionBinding) (all : Joined) → AllByRecursion OfJoin joins → IfCondition filter → AreJoined all
     → OfAnswer IsFiltered (selects.filtered_over view joins filter all)

@@ -41,10 +41,10 @@ pub record AreJoined (all : Joined) : Type 0 where
   pub left : AllByRecursion AreNumberedSource all.rest
   pub few : columns_of_sources all.joined + columns_of_sources all.rest ≤ 64
 
-pub record IsNumberedFrom (sources : List BoundSource) (conjuncts : List Conjunct) : Type 0 where
+pub record IsNumberedFrom (sources : List BoundSource) (filter : List Conjunct) : Type 0 where
   pub numbered : AllByRecursion AreNumberedSource sources
   pub few : columns_of_sources sources ≤ 64
-  pub conjuncts : AllByRecursion AreNumberedConjunct conjuncts
+  pub conjuncts : AllByRecursion AreNumberedConjunct filter
 
 abbrev pub IsFiltered : Filtered → Type 0
 IsFiltered filtered = IsNumberedFrom filtered.sources filtered.conjuncts
