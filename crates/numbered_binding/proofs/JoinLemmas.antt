@@ -1,5 +1,5 @@
 -- ON, and the sources joined.
-use Rattle.std.proofs.Common.{◌≡◌, ℕ, ◌+◌, ◌≤◌, List, [], ◌∷◌, ◌++◌, length, refl, ap, arith}
+use Rattle.std.proofs.Common.{◌≡◌, ℕ, ◌+◌, ◌≤◌, List, [], ◌∷◌, length, refl, ap, arith}
 use Rattle.std.specs.Prelude.{⊤}
 use Rattle.sql_expr.specs.declared.tree.Expr.{Expr}
 use Rattle.bound_tree.specs.declared.select.BoundCore.{BoundCore}
@@ -26,7 +26,7 @@ joined-next : (on : List Expr) (joined rest : List BoundSource) (columns behind 
 joined-next on joined [] columns behind are = are
 joined-next on joined (source ∷ rest) columns behind are =
     let node : BoundSource-F BoundRows Conjunct SourceRows BoundCore BoundSelect BoundSource =
-        record { name = (out-BoundSource source).name; rows = (out-BoundSource source).rows; kinds = (out-BoundSource source).kinds; join = (out-BoundSource source).join; on = on } in
+    record { name = (out-BoundSource source).name; rows = (out-BoundSource source).rows; kinds = (out-BoundSource source).kinds; join = (out-BoundSource source).join; on = on } in
     let put = with_on source on in
     record {
       numbered = all-behind AreNumberedSource joined put are.numbered

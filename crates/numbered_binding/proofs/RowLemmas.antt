@@ -1,8 +1,6 @@
 -- Rows and their order.
 use Rattle.std.proofs.Common.{ℕ, ◌≤◌, Bool, true, false, List, subst, Option, None, cond, arith}
 use Rattle.std.specs.Prelude.{⊤, ◌<◌}
-use Rattle.std.specs.List.{AllByRecursion}
-use Rattle.ooc_types.specs.declared.schema.Column.{Column}
 use Rattle.ooc_types.specs.declared.refusal.RefusalKind.TheVariants.{TooManyColumns}
 use Rattle.sql_expr.specs.declared.tree.Expr.{Expr as Tree}
 use Rattle.bound_tree.specs.declared.select.BoundCore.{BoundCore}
@@ -13,7 +11,7 @@ use Rattle.bound_tree.specs.declared.select.Conjunct.{Conjunct}
 use Rattle.bound_tree.specs.declared.select.Cut.{Cut}
 use Rattle.bound_tree.specs.declared.select.Grouping.{Grouping}
 use Rattle.bound_tree.specs.declared.select.SourceRows.{SourceRows}
-use Rattle.bound_tree.specs.declared.select.BoundRows.TheOpen.{BoundCore-F, BoundRows-F, BoundSelect-F}
+use Rattle.bound_tree.specs.declared.select.BoundRows.TheOpen.{BoundCore-F, BoundRows-F}
 use Rattle.bound_tree.specs.declared.select.BoundRows.TheVariants.{rolls-Core, rolls-Set}
 use Rattle.bound_tree.specs.declared.select.BoundRows.TheViews.{roll-BoundCore}
 use Rattle.sql_plan.specs.Chosen.{columns_limit}
@@ -42,7 +40,7 @@ few-numbered n few = omega arith
 core-kept : (core : BoundClauses) (grouping : Option Grouping) (items : List Tree) → IsNumberedFrom core.sources core.conjuncts → AreNumberedRows (core_rows core grouping items)
 core-kept core grouping items is =
     let node : BoundCore-F BoundRows Conjunct SourceRows BoundCore BoundSelect BoundSource =
-        record { sources = core.sources; conjuncts = core.conjuncts; grouping = grouping; items = items; distinct = core.distinct } in
+    record { sources = core.sources; conjuncts = core.conjuncts; grouping = grouping; items = items; distinct = core.distinct } in
     let whole : BoundCore = roll-BoundCore node in
     subst AreNumberedRows (rolls-Core whole) (rows_made (λ x. ⊤) (λ x. ⊤) (λ x. ⊤) IsNumberedCore (λ x. ⊤) (λ x. ⊤) (BoundRows-F.Core whole)
     (core_made (λ x. ⊤) (λ x. ⊤) (λ x. ⊤) IsNumberedCore (λ x. ⊤) (λ x. ⊤) node (is.numbered, is.conjuncts) (few-numbered _ is.few)) tt)

@@ -1,9 +1,8 @@
 -- The sources of FROM.
-use Rattle.std.proofs.Common.{◌≡◌, ℕ, ◌+◌, ◌≤◌, Bool, true, nat_le, List, [], ◌∷◌, ◌++◌, map, length, refl, sym, ap, ◌∙◌, subst, Option, Some, None, arith, length-append}
+use Rattle.std.proofs.Common.{◌≡◌, ℕ, ◌+◌, ◌≤◌, nat_le, List, [], ◌∷◌, ◌++◌, map, length, refl, ap, ◌∙◌, subst, Option, Some, None, arith, length-append}
 use Rattle.std.specs.Prelude.{⊤, not}
 use Rattle.std.proofs.lemmas.Bool.{leb-true}
 use Rattle.ooc_types.specs.declared.schema.Column.{Column}
-use Rattle.ooc_types.specs.declared.schema.SqlType.{SqlType}
 use Rattle.ooc_types.specs.declared.refusal.RefusalKind.TheVariants.{DuplicateName, NoTable, TooManyColumns}
 use Rattle.bound_tree.specs.declared.kinds.JoinKind.{JoinKind}
 use Rattle.bound_tree.specs.declared.select.BoundCore.{BoundCore}
@@ -18,7 +17,6 @@ use Rattle.bound_tree.specs.declared.select.BoundRows.TheViews.{out-BoundSelect,
 use Rattle.plan_tree.specs.Plannable.{columns_of_source, columns_of_sources}
 use Rattle.sql_plan.specs.Numbered.{AreNumbered, AreNumberedInput, AreNumberedSource, IsNumberedCore}
 use Rattle.sql_grammar.specs.declared.tree.expr.Span.{Span}
-use Rattle.sql_scope.specs.declared.scope.ScopeColumn.{ScopeColumn}
 use Rattle.sql_scope.specs.Answer.{or_refuse}
 use Rattle.sql_scope.specs.Texts.{folded, folded_at}
 use Rattle.sql_scope.specs.Scopes.{View, columns_of}
@@ -50,7 +48,7 @@ source-next place at name join rows columns sources input are =
       columns =
           let a = columns-behind sources.list source in
           let b : columns_of_source source ≡ length columns =
-              ap (λ (s : BoundSource-F BoundRows Conjunct SourceRows BoundCore BoundSelect BoundSource). length s.kinds) (out-roll-BoundSource node) ∙ length-map (λ (c : Column). c.kind) columns in
+          ap (λ (s : BoundSource-F BoundRows Conjunct SourceRows BoundCore BoundSelect BoundSource). length s.kinds) (out-roll-BoundSource node) ∙ length-map (λ (c : Column). c.kind) columns in
           let c = length-append sources.columns (scope_columns (folded name) columns) in
           let d : length (scope_columns (folded name) columns) ≡ length columns = length-map (scope_column (folded name)) columns in
           let e = are.columns in

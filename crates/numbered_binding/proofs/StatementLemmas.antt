@@ -1,7 +1,5 @@
 -- What a statement is bound to.
 use Rattle.std.proofs.Common.{◌≡◌, ℕ, List, [], length, nat_le, Ok}
-use Rattle.std.specs.Prelude.{⊤}
-use Rattle.ooc_types.specs.declared.schema.Column.{Column}
 use Rattle.ooc_types.specs.declared.refusal.RefusalKind.TheVariants.{TooManyColumns}
 use Rattle.bound_tree.specs.declared.statement.Bound.{Bound}
 use Rattle.bound_tree.specs.declared.statement.Bound.TheVariants.{CreateTable}
@@ -16,7 +14,7 @@ use Rattle.sql_scope.specs.Answer.{◌>>=◌, each}
 use Rattle.sql_scope.specs.Scopes.{View}
 use Rattle.sql_clauses.specs.Copies.{copied, copy_table, no_options, option_behind}
 use Rattle.sql_clauses.specs.Names.{text_of}
-use Rattle.sql_clauses.specs.Tables.{column_behind, create_table, drop_table, dropped, known_table, most_columns, new_table, table_of}
+use Rattle.sql_clauses.specs.Tables.{column_behind, create_table, dropped, known_table, most_columns, new_table, table_of}
 use Rattle.bind_rules.specs.Bound.{bound_of, bound_over, explained, select_binding, selected_rows, view_of}
 use Rattle.numbered_binding.specs.Kept.{OfAnswer}
 use Rattle.numbered_binding.specs.Numbered.{IsNumberedStatement}

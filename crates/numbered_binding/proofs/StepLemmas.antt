@@ -1,14 +1,12 @@
 -- What a node of a statement's tree keeps, by what its parts keep.
-use Rattle.std.proofs.Common.{ℕ, ◌+◌, ◌≤◌, Bool, List, [], ◌∷◌, refl, Option, Some, None, Ok, arith}
+use Rattle.std.proofs.Common.{ℕ, Bool, List, refl, Option, Some, None, Ok, arith}
 use Rattle.std.specs.Prelude.{⊤}
 use Rattle.std.specs.List.{AllByRecursion}
-use Rattle.sql_expr.specs.declared.tree.Expr.{Expr as Tree}
 use Rattle.bound_tree.specs.declared.kinds.JoinKind.TheVariants.{First, Cross}
 use Rattle.sql_plan.specs.Numbered.{AreNumbered, AreNumberedConjunct}
 use Rattle.sql_grammar.specs.declared.tree.expr.Argument.TheOpen.{Expr-F, Join-F, Rows-F, Source-F}
 use Rattle.sql_scope.specs.Answer.{◌>>=◌}
 use Rattle.sql_scope.specs.Scopes.{View, front, over_columns}
-use Rattle.sql_clauses.specs.declared.cores.NamedRows.{NamedRows}
 use Rattle.sql_clauses.specs.declared.joins.Joined.{Joined}
 use Rattle.sql_clauses.specs.declared.sources.Sources.{Sources}
 use Rattle.sql_clauses.specs.Conditions.{begun as begun_filter, ended, joined}
@@ -17,14 +15,14 @@ use Rattle.sql_clauses.specs.Membership.{member}
 use Rattle.sql_clauses.specs.Rows.{combined, finished_rows, select_of}
 use Rattle.sql_clauses.specs.Sources.{all_sources, no_sources, query_source}
 use Rattle.bind_rules.specs.declared.cores.Filtered.{Filtered}
-use Rattle.bind_rules.specs.Bindings.{ExprBinding, OperandBinding, ConditionBinding, SelectBinding, RowsBinding, SetBinding, ItemBinding, SourceBinding, JoinBinding}
+use Rattle.bind_rules.specs.Bindings.{ExprBinding, ConditionBinding, RowsBinding, ItemBinding, SourceBinding, JoinBinding}
 use Rattle.bind_rules.specs.Cores as cores
 use Rattle.bind_rules.specs.Expressions as expressions
 use Rattle.bind_rules.specs.Expressions.{ExprNode}
 use Rattle.bind_rules.specs.From.{begun, join_kind}
 use Rattle.bind_rules.specs.Selects as selects
 use Rattle.bind_rules.specs.Selects.{JoinNode, RowsNode, SelectNode, SourceNode}
-use Rattle.numbered_binding.specs.Kept.{AreFew, AreJoined, AreNamed, AreSources, AreUnordered, IfCondition, IsFilter, IsFiltered, IsOperand, OfAnswer, OfCondition, OfExpr, OfJoin, OfOperand, OfRows, OfSelect, OfSet, OfSource}
+use Rattle.numbered_binding.specs.Kept.{AreFew, AreJoined, AreNamed, AreSources, AreUnordered, IfCondition, IsFilter, IsFiltered, IsOperand, OfAnswer, OfExpr, OfJoin, OfOperand, OfRows, OfSelect, OfSet, OfSource}
 use Rattle.numbered_binding.proofs.AnswerLemmas.{behind-any, each-keeps, on-answer}
 use Rattle.numbered_binding.proofs.JoinLemmas.{joined-on, plainly-joined}
 use Rattle.numbered_binding.proofs.RowLemmas.{combined-kept, finished-kept, select-kept}

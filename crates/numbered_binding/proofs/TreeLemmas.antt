@@ -1,7 +1,6 @@
 -- What every part of a statement's tree keeps.
-use Rattle.std.proofs.Common.{◌≡◌, List, [], ◌∷◌, map, sym, ap, subst, Option, Some, None}
+use Rattle.std.proofs.Common.{◌≡◌, sym, ap, subst, Some, None}
 use Rattle.std.specs.Prelude.{⊤}
-use Rattle.std.specs.List.{AllByRecursion}
 use Rattle.sql_grammar.specs.declared.tree.expr.Argument.{Argument}
 use Rattle.sql_grammar.specs.declared.tree.expr.Expr.{Expr}
 use Rattle.sql_grammar.specs.declared.tree.expr.Link.{Link}

@@ -1,12 +1,11 @@
 -- The operands of WHERE.
-use Rattle.std.proofs.Common.{ℕ, Bool, List, [], ◌∷◌, ◌++◌, subst, Ok}
+use Rattle.std.proofs.Common.{ℕ, Bool, [], ◌∷◌, ◌++◌, subst, Ok}
 use Rattle.std.specs.Prelude.{⊤, ◌&&◌}
 use Rattle.std.specs.List.{AllByRecursion}
 use Rattle.ooc_types.specs.declared.schema.SqlType.{SqlType}
 use Rattle.ooc_types.specs.declared.schema.SqlType.TheVariants.{Boolean}
 use Rattle.ooc_types.specs.declared.refusal.RefusalKind.TheVariants.{TypeMismatch}
 use Rattle.bound_tree.specs.declared.select.BoundSelect.{BoundSelect}
-use Rattle.bound_tree.specs.declared.select.Conjunct.{Conjunct}
 use Rattle.bound_tree.specs.declared.select.Conjunct.TheVariants.{Member, rolls-Condition, rolls-Member}
 use Rattle.bound_tree.specs.declared.select.BoundRows.TheOpen.{Conjunct-F}
 use Rattle.sql_plan.specs.Numbered.{AreNumbered, AreNumberedConjunct, IsNumberedCore}

@@ -1,5 +1,5 @@
 -- What each part of a statement's tree keeps: each FROM in what it is bound to is numbered.
-use Rattle.std.specs.Prelude.{◌≡◌, ℕ, ◌+◌, ◌≤◌, List, length, Option, Some, None, Ok, Err, ⊤}
+use Rattle.std.specs.Prelude.{◌≡◌, ◌+◌, ◌≤◌, List, length, Option, Some, None, Ok, Err, ⊤}
 use Rattle.std.specs.List.{AllByRecursion}
 use Rattle.bound_tree.specs.declared.kinds.JoinKind.{JoinKind}
 use Rattle.bound_tree.specs.declared.select.BoundSource.{BoundSource}
