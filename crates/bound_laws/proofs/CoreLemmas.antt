@@ -92,7 +92,7 @@ module _ (limit : ℕ) where
     abbrev pub SourceFits : BoundSource → Type 0
     SourceFits source = Rows (kinds_of_source source) (source_meaning tables source).found.rows
 
-    width-is : (source : BoundSource) → (source_meaning tables source).width ≡ length (kinds_of_source source)
+    pub width-is : (source : BoundSource) → (source_meaning tables source).width ≡ length (kinds_of_source source)
     width-is source = ap (λ (s : Source). s.width) (ap (source_meaning tables) (sym (roll-out-BoundSource source)) ∙ source-out tables (out-BoundSource source))
 
     behind-fit : (columns : List SqlType) (sources : List BoundSource) (rows : List Row) → AllByRecursion SourceFits sources → Rows columns rows
@@ -104,12 +104,12 @@ module _ (limit : ℕ) where
         subst (λ (ks : List SqlType). Rows ks (from_behind (map (source_meaning tables) sources) next).rows) (append-three columns kinds (kinds_of_sources sources))
         (behind-fit (columns ++ kinds) sources next fit.1 (joined-fit columns kinds (source_meaning tables source) rows (width-is source) fit.0 all))
 
-    from-fit : (sources : List BoundSource) → AllByRecursion SourceFits sources → Rows (kinds_of_sources sources) (from_rows (map (source_meaning tables) sources)).rows
+    pub from-fit : (sources : List BoundSource) → AllByRecursion SourceFits sources → Rows (kinds_of_sources sources) (from_rows (map (source_meaning tables) sources)).rows
     from-fit sources fit = behind-fit [] sources ([] ∷ []) fit (tt, tt)
 
     -- ---- grouping, HAVING and items
 
-    below-fit : (sources : List BoundSource) (grouping : Option BoundGrouping) (rows : List Row) → Rows (kinds_of_sources sources) rows → IfSome grouping (IsGrouping limit (kinds_of_sources sources))
+    pub below-fit : (sources : List BoundSource) (grouping : Option BoundGrouping) (rows : List Row) → Rows (kinds_of_sources sources) rows → IfSome grouping (IsGrouping limit (kinds_of_sources sources))
         → (perhaps_grouped (option_map grouping_of grouping) rows).faults ≡ [] → Rows (kinds_below_items sources grouping) (perhaps_grouped (option_map grouping_of grouping) rows).rows
     below-fit sources None rows all is none = all
     below-fit sources (Some grouping) rows all is none = grouped-fit limit (kinds_of_sources sources) grouping rows is all none

@@ -32,7 +32,7 @@ pub append-empty : {A : Type 0} (xs ys : List A) → (xs ++ ys) ≡ [] → (xs �
 append-empty [] ys is = (refl, is)
 append-empty (x ∷ xs) ys is = cc
 
-flat-empty : {A B : Type 0} (f : A → List B) (xs : List A) → flat_map f xs ≡ [] → AllByRecursion (λ x. f x ≡ []) xs
+pub flat-empty : {A B : Type 0} (f : A → List B) (xs : List A) → flat_map f xs ≡ [] → AllByRecursion (λ x. f x ≡ []) xs
 flat-empty f [] is = tt
 flat-empty f (x ∷ xs) is = let parts = append-empty (f x) (flat_map f xs) is in (parts.0, flat-empty f xs parts.1)
 
@@ -47,7 +47,7 @@ none-passes test (x ∷ xs) is = let parts = or_parts (test x) (list_any test xs
 -- ---- one group
 
 module _ (limit : ℕ) (columns : List SqlType) where
-  fit-arguments : (distinct : Bool) (of : Option Expr) (rows : List Row) → IfSome of (IsExpr limit columns) → AllByRecursion (IsRow limit columns) rows
+  pub fit-arguments : (distinct : Bool) (of : Option Expr) (rows : List Row) → IfSome of (IsExpr limit columns) → AllByRecursion (IsRow limit columns) rows
       → AreArguments limit of (perhaps_once distinct (arguments (option_map row_value_of of) rows).rows)
   fit-arguments distinct None rows is all = tt
   fit-arguments distinct (Some e) rows is all =
@@ -55,7 +55,7 @@ module _ (limit : ℕ) (columns : List SqlType) where
       (all-given (IsRow limit columns) (IsValue limit (kind_of e)) (λ row. (value_found (value_of row e)).rows)
       (λ row meets. found-has (IsValue limit (kind_of e)) (value_of row e) (expr-value limit columns e row is meets)) rows all)
 
-  abbrev CountsFew : List Row → Aggregate → Type 0
+  abbrev pub CountsFew : List Row → Aggregate → Type 0
   CountsFew rows aggregate = rows_counted rows (aggregation_of aggregate) ≤ most_rows
 
   aggregate-value : (aggregate : Aggregate) (rows : List Row) → IsAggregate limit columns aggregate → AllByRecursion (IsRow limit columns) rows → CountsFew rows aggregate
@@ -75,7 +75,7 @@ module _ (limit : ℕ) (columns : List SqlType) where
   counts-few [] rows none = tt
   counts-few (aggregate ∷ aggregates) rows none = (ltb-false most_rows (rows_counted rows (aggregation_of aggregate)) none.0, counts-few aggregates rows none.1)
 
-  group-counts : (aggregates : List Aggregate) (rows : List Row) → group_faults (map aggregation_of aggregates) rows ≡ [] → AllByRecursion (CountsFew rows) aggregates
+  pub group-counts : (aggregates : List Aggregate) (rows : List Row) → group_faults (map aggregation_of aggregates) rows ≡ [] → AllByRecursion (CountsFew rows) aggregates
   group-counts aggregates rows none =
       let test = λ (aggregation : Aggregation). nat_lt most_rows (rows_counted rows aggregation) in
       let any = list_any test (map aggregation_of aggregates) in
@@ -91,7 +91,7 @@ module _ (limit : ℕ) (columns : List SqlType) where
   key-fits keys row (Err fault) all meets = tt
   key-fits keys row (Ok key) all meets = ((all.0, meets), tt)
 
-  keyed-fit : (keys : List Expr) (rows : List Row) → AllByRecursion (IsExpr limit columns) keys → AllByRecursion (IsRow limit columns) rows → AllByRecursion (FitsKey keys) (keyed (map row_value_of keys) rows).rows
+  pub keyed-fit : (keys : List Expr) (rows : List Row) → AllByRecursion (IsExpr limit columns) keys → AllByRecursion (IsRow limit columns) rows → AllByRecursion (FitsKey keys) (keyed (map row_value_of keys) rows).rows
   keyed-fit keys rows are all =
       all-given (IsRow limit columns) (FitsKey keys) (λ row. (keyed_found row (values (map row_value_of keys) row)).rows)
       (λ row meets. key-fits keys row (values (map row_value_of keys) row) (items-row limit columns keys row are meets) meets) rows all
@@ -102,7 +102,7 @@ module _ (limit : ℕ) (columns : List SqlType) where
       all-firsts (IsRow limit (map kind_of (key ∷ keys))) row_eq (map (λ (one : Keyed). one.key) rows)
       (all-over (FitsKey (key ∷ keys)) (IsRow limit (map kind_of (key ∷ keys))) (λ one. one.key) (λ one fits. fits.0) rows all)
 
-  rows-fit : (keys : List Expr) (key : Row) (rows : List Keyed) → AllByRecursion (FitsKey keys) rows → AllByRecursion (IsRow limit columns) (rows_of key rows)
+  pub rows-fit : (keys : List Expr) (key : Row) (rows : List Keyed) → AllByRecursion (FitsKey keys) rows → AllByRecursion (IsRow limit columns) (rows_of key rows)
   rows-fit keys key rows all =
       all-over (FitsKey keys) (IsRow limit columns) (λ one. one.row) (λ one fits. fits.1) (filter (λ one. row_eq key one.key) rows) (all-kept (FitsKey keys) (λ one. row_eq key one.key) rows all)
 

@@ -151,7 +151,7 @@ module _ (limit : ℕ) (schemas : Schemas) (tables : Tables) (meet : MeetSchemas
       (subst (λ (s : Source). Fit x.kinds s.found.rows) (sym (source-out tables x)) (held x.kinds node))
 
   -- each row of a source is of its columns
-  source-rows : (source : BoundSource) → IsWellFormedSource limit schemas source → FromFits source
+  pub source-rows : (source : BoundSource) → IsWellFormedSource limit schemas source → FromFits source
   source-rows = from_brings IsRowsNode AnyConjunct AnyInput (IsCoreNode limit) IsSelectNode (IsSourceNode schemas) RowsFit AnyPart InputFits CoreFits WholeFits FromFits
       (λ x node well held. by_rows x node held) (λ x node well held. tt) (λ x node well held. by_input x held) (λ x node well held. by_core x node held) (λ x node well held. by_whole x node held) (λ x node well held. by_from x node held)
 

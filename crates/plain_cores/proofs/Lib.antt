@@ -1,0 +1,3 @@
+pub mod Cleaning
+pub mod CoreAnswers
+pub mod Tested

@@ -1,0 +1,3 @@
+pub mod Cores
+pub mod Known
+pub mod Named

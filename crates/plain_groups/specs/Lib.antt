@@ -1,0 +1,4 @@
+pub mod Arguments
+pub mod Grouped
+pub mod Keys
+pub mod Sums

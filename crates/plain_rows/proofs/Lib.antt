@@ -1,0 +1,6 @@
+pub mod Collecting
+pub mod Fitting
+pub mod Joining
+pub mod OneTable
+pub mod Verdicts
+pub mod Placing

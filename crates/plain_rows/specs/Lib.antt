@@ -1,0 +1,6 @@
+pub mod Answers
+pub mod Cores
+pub mod Froms
+pub mod Outcomes
+pub mod Places
+pub mod Tests

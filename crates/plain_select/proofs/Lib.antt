@@ -1,0 +1,2 @@
+pub mod CoreFitting
+pub mod Walked
