@@ -77,7 +77,13 @@ fn check_named<F: Files, K: Sink>(
     match open_script(alloc, files, settings.script.as_str()) {
         Ok(OpenedScript { bytes, script }) => {
             let limit = text_limit(settings.page as usize) as usize;
-            check_statements(alloc, bytes.as_slice(), script.statements.as_slice(), limit, out)
+            check_statements(
+                alloc,
+                bytes.as_slice(),
+                script.statements.as_slice(),
+                limit,
+                out,
+            )
         }
         Err(status) => end(alloc, out, status),
     }

@@ -25,6 +25,7 @@ last_text closing old mid new text status result closes g e = at e.ends
     which : ((e.whole ≡ status) × (e.all ≡ text)) ⊎ ((e.whole ≡ OutOfMemory) × (e.all ≡ line_of OutOfMemory)) → Closes closing e.whole e.all
     which (inl is) = rw (is.0, is.1) closes
     which (inr is) = inr (is.1 ∙ ap line_of (sym is.0))
+
     at : ((result ≡ e.whole) × (e.lost ≡ [])) ⊎ (result ≡ WriteFault) → EndsInLine closing old new result
     at (inr failed) = inl failed
     at (inl is) =

@@ -102,6 +102,7 @@ ended does closing set held out status w = at w.ends
     whole : status ≡ w.whole → Ends does set held w.whole ⊎ MayCut w.whole → EndsOrCut does set held status
     whole is (inl ends) = inl (rw is ends)
     whole is (inr may) = inr (inl (rw is may))
+
     at : ((status ≡ w.whole) × (w.lost ≡ [])) ⊎ (status ≡ WriteFault) → EndsOrCut does set held status
     at (inr failed) = inr (inr failed)
     at (inl is) = whole is.0 (Writes-ends does closing set held (out ++ w.lost) w.whole w.allowed)
@@ -113,6 +114,7 @@ ends_as old new text status result e = at e.ends
     which : result ≡ e.whole → ((e.whole ≡ status) × (e.all ≡ text)) ⊎ ((e.whole ≡ OutOfMemory) × (e.all ≡ line_of OutOfMemory)) → EndsAs status result
     which is (inl same) = inl (is ∙ same.0)
     which is (inr memory) = inr (inl (is ∙ memory.0))
+
     at : ((result ≡ e.whole) × (e.lost ≡ [])) ⊎ (result ≡ WriteFault) → EndsAs status result
     at (inr failed) = inr (inr failed)
     at (inl is) = which is.0 e.which

@@ -44,5 +44,5 @@ shown_of cut columns counted found (fault ∷ faults) = Faulted (fault ∷ fault
 abbrev pub shown : Tables → BoundSelect → Shown
 shown tables select =
     shown_of (out-BoundSelect select).cut (out-BoundSelect select).columns
-        (counted_rows (cut_of (out-BoundSelect select).cut) (rows_meaning tables (out-BoundSelect select).rows))
-        (select_meaning tables select) (select_meaning tables select).faults
+    (counted_rows (cut_of (out-BoundSelect select).cut) (rows_meaning tables (out-BoundSelect select).rows))
+    (select_meaning tables select) (select_meaning tables select).faults
