@@ -165,12 +165,7 @@ fn having_over(alloc: Global, core: &Core, all: &Gathered) -> Result<Option<Expr
     }
 }
 
-fn having_tree(
-    alloc: Global,
-    core: &Core,
-    all: &Gathered,
-    tree: &Expr,
-) -> Result<Expr, OutOfMemory>
+fn having_tree(alloc: Global, core: &Core, all: &Gathered, tree: &Expr) -> Result<Expr, OutOfMemory>
     requires keys { length core.now.keys ≤ most_places }
     requires calls { AreAmong most_places all.now.calls }
     ensures { IfOk result (λ over. over ≡ grouped_tree core.now.keys (group_place (length core.now.keys) (length core.now.columns) all.now.calls) tree.now) }

@@ -267,7 +267,13 @@ fn links_over(
 
 /// An expression over the row of a group.
 #[cycle(group)]
-pub(crate) fn tree_over(alloc: Global, tree: &Expr, keys: &[Expr], width: usize, calls: &[CallColumn]) -> Over
+pub(crate) fn tree_over(
+    alloc: Global,
+    tree: &Expr,
+    keys: &[Expr],
+    width: usize,
+    calls: &[CallColumn],
+) -> Over
     requires keys { length keys.now ≤ rules.most_places }
     requires calls { AreAmong rules.most_places calls.now }
     ensures { IfOk result (λ over. over ≡ rules.over_group keys.now (rules.group_place (length keys.now) width calls.now) tree.now) }
