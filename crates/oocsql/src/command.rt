@@ -42,7 +42,7 @@ fn others(alloc: Global, args: Args) -> Result<Vec<String>, OutOfMemory>
 
 // The words behind the program's name. An argument that isn't UTF-8 is a faulty word, and leaves no words, which are
 // faulty too.
-fn words_in(alloc: Global, args: io::Result<Args>) -> Result<Vec<String>, OutOfMemory>
+pub(crate) fn words_in(alloc: Global, args: io::Result<Args>) -> Result<Vec<String>, OutOfMemory>
     ensures { IfOk result (λ words. words_of words.items ≡ words_behind args) }
 {
     match args {

@@ -4,10 +4,12 @@
 //! files and the standard output, of whose contents nothing is told.
 #![tactic(auto)]
 
+mod checking;
 mod command;
 mod real_files;
 mod real_sink;
 
+pub use checking::{check, is_check};
 pub use command::run;
 pub use real_files::RealFiles;
 pub use real_sink::RealSink;
@@ -16,7 +18,12 @@ use std::process::ExitCode;
 
 fn main(rt: HostRuntime) -> ExitCode {
     let (mut files, mut out) = (RealFiles::new_files(&rt), RealSink::new_sink(&rt));
-    ExitCode::from(run(&rt, rt.alloc(), env::args(&rt), &mut files, &mut out).code())
+    let code = if is_check(env::args(&rt)) {
+        check(rt.alloc(), env::args(&rt), &mut files, &mut out).code()
+    } else {
+        run(&rt, rt.alloc(), env::args(&rt), &mut files, &mut out).code()
+    };
+    ExitCode::from(code)
 }
 
 #[cfg(test)]

@@ -40,17 +40,45 @@ fn expect<R: Threads + Wait + Sync + Abort>(
 fn a_command_without_one_script_is_faulty(rt: HostRuntime) -> Result<(), Fail> {
     let alloc = rt.alloc();
     for (words, code, out) in &COMMANDS {
-        let mut args = vec![in alloc; String::from_str(alloc, "oocsql")?]?;
-        for word in *words {
-            args.push(String::from_str(alloc, word)?)?;
-        }
-        expect(&rt, alloc, Ok(args.into_iter()), *code, out)?;
+        expect(&rt, alloc, Ok(arguments(alloc, words)?), *code, out)?;
     }
     // An argument that isn't UTF-8, and want of memory.
     let odd = io::Error::from(io::ErrorKind::InvalidData);
     expect(&rt, alloc, Err(odd), 2, USAGE)?;
     let memory = io::Error::from(io::ErrorKind::OutOfMemory);
     expect(&rt, alloc, Err(memory), 7, "error: out of memory\n")
+}
+
+/// The arguments behind the program's name, whether they ask for a check, its exit status, and what it writes where no file is
+/// there.
+static CHECKS: [(&[&str], bool, u8, &str); 5] = [
+    (&[], false, 2, USAGE),
+    (&["s.sql"], false, 2, USAGE),
+    (&["s.sql", "--check"], false, 2, USAGE),
+    (&["--check"], true, 2, USAGE),
+    (&["--check", "s.sql"], true, 1, "error: script: no file\n"),
+];
+
+fn arguments(alloc: Global, words: &[&str]) -> Result<Args, Fail> {
+    let mut args = vec![in alloc; String::from_str(alloc, "oocsql")?]?;
+    for word in words {
+        args.push(String::from_str(alloc, word)?)?;
+    }
+    Ok(args.into_iter())
+}
+
+#[test]
+fn a_check_is_asked_for_by_its_first_word(rt: HostRuntime) -> Result<(), Fail> {
+    let alloc = rt.alloc();
+    for (words, asked, code, out) in &CHECKS {
+        assert_eq!(rt; is_check(Ok(arguments(alloc, words)?)), *asked);
+        let mut files = MemFiles::new_files(Vec::new(alloc), Vec::new(alloc));
+        let mut sink = MemSink::new_sink(alloc, Vec::new(alloc), 256)?;
+        let status = check(alloc, Ok(arguments(alloc, words)?), &mut files, &mut sink);
+        assert_eq!(rt; sink.bytes(), out.as_bytes());
+        assert_eq!(rt; status.code(), *code);
+    }
+    Ok(())
 }
 
 #[test]
