@@ -39,7 +39,7 @@ static SCRIPTS: [(&str, &str); 18] = [
     ("SELECT a FROM t ^)", "syntax"),
     ("SELECT ^FROM t", "syntax"),
     // The grammar is asked before any statement is bound, and the tokens before the grammar.
-    ("SELECT z FROM nothing; SELECT a FROM t ^t.b", "syntax"),
+    ("SELECT z FROM nothing; SELECT a FROM t t^.b", "syntax"),
     ("SELECT FROM t; SELECT ^?", "bad token"),
 ];
 
