@@ -82,7 +82,13 @@ fn expressions_have_32_levels(rt: HostRuntime) -> Result<(), Fail> {
     }
     // What the grammar refuses before it is answered.
     let script = nested(alloc, ("SELECT ) ", "(", "a", ")"), 33)?;
-    expect(&rt, alloc, script.as_bytes(), 1, "error: script at 7: syntax\n")
+    expect(
+        &rt,
+        alloc,
+        script.as_bytes(),
+        1,
+        "error: script at 7: syntax\n",
+    )
 }
 
 #[test]
@@ -95,7 +101,13 @@ fn subqueries_have_32_levels(rt: HostRuntime) -> Result<(), Fail> {
         ") AS s",
     );
     let script = nested(alloc, parts, 33)?;
-    expect(&rt, alloc, script.as_bytes(), 1, "error: script at 518: too deep\n")?;
+    expect(
+        &rt,
+        alloc,
+        script.as_bytes(),
+        1,
+        "error: script at 518: too deep\n",
+    )?;
     let script = nested(alloc, parts, 32)?;
     let lines = (
         "plan\n",
@@ -117,9 +129,7 @@ fn expect_text<R: Abort>(
     is_taken: bool,
 ) -> Result<(), Fail> {
     let text = repeat(alloc, "x", length)?;
-    let script = format!(in alloc;
-        "CREATE TABLE t (a TEXT); SELECT a FROM t WHERE a = '{text}'"
-    )?;
+    let script = format!(in alloc; "CREATE TABLE t (a TEXT); SELECT a FROM t WHERE a = '{text}'")?;
     if is_taken {
         let out = "plan\nscan t filter 1\nproject 1\n\nok\n";
         expect_words(rt, alloc, words, Some(script.as_bytes()), 0, out)
@@ -193,7 +203,25 @@ fn expect_items<R: Abort>(
 fn columns_and_items_are_64_at_most(rt: HostRuntime) -> Result<(), Fail> {
     let alloc = rt.alloc();
     expect_columns(&rt, alloc, 64, 0, "ok\n")?;
-    expect_columns(&rt, alloc, 65, 1, "error: statement 1 at 13: too many columns\n")?;
-    expect_items(&rt, alloc, 64, 0, "plan\nscan t filter 0\nproject 64\n\nok\n")?;
-    expect_items(&rt, alloc, 65, 1, "error: statement 2 at 24: too many columns\n")
+    expect_columns(
+        &rt,
+        alloc,
+        65,
+        1,
+        "error: statement 1 at 13: too many columns\n",
+    )?;
+    expect_items(
+        &rt,
+        alloc,
+        64,
+        0,
+        "plan\nscan t filter 0\nproject 64\n\nok\n",
+    )?;
+    expect_items(
+        &rt,
+        alloc,
+        65,
+        1,
+        "error: statement 2 at 24: too many columns\n",
+    )
 }

@@ -80,7 +80,11 @@ fn expect_writing<R: Abort>(
     let status = check(alloc, WORDS, &mut files, &mut sink)?;
     assert_eq!(rt; shown(sink.bytes()), out, "room {room}, call {failing}");
     assert_eq!(rt; status.code(), code, "room {room}, call {failing}");
-    assert_eq!(rt; sink.fault_count(), u64::from(code == 4), "room {room}, call {failing}");
+    assert_eq!(rt;
+        sink.fault_count(),
+        u64::from(code == 4),
+        "room {room}, call {failing}"
+    );
     assert_eq!(rt; files.fault_count(), 0, "room {room}, call {failing}");
     Ok(())
 }
@@ -118,7 +122,11 @@ fn expect_front<R: Abort>(
     let mut sink = sink(alloc, 0, room)?;
     let status = check(alloc, WORDS, &mut files, &mut sink)?;
     assert!(rt; out.as_bytes().starts_with(sink.bytes()), "room {room}");
-    assert_eq!(rt; sink.bytes().len(), out.len().min(room as usize), "room {room}");
+    assert_eq!(rt;
+        sink.bytes().len(),
+        out.len().min(room as usize),
+        "room {room}"
+    );
     Ok(status.code())
 }
 

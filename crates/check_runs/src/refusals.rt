@@ -22,11 +22,17 @@ fn expect_refused<R: Abort>(
 
 /// Scripts whose tokens or grammar are refused. Nothing is written before, whatever their statements are.
 static SCRIPTS: [(&str, &str); 18] = [
-    ("CREATE TABLE t (a INT); SELECT a FROM t; SELECT ^? FROM t", "bad token"),
+    (
+        "CREATE TABLE t (a INT); SELECT a FROM t; SELECT ^? FROM t",
+        "bad token",
+    ),
     ("SELECT ^'abc", "bad token"),
     ("SELECT ^\"abc FROM t", "bad token"),
     ("CREATE TABLE t (a INT); ^/* on", "bad token"),
-    ("SELECT ^170141183460469231731687303715884105728 FROM t", "bad token"),
+    (
+        "SELECT ^170141183460469231731687303715884105728 FROM t",
+        "bad token",
+    ),
     ("SELECT a ^/ b FROM t", "bad token"),
     ("CREATE ^t (a INT)", "syntax"),
     ("CREATE TABLE ^select (a INT)", "syntax"),
@@ -84,32 +90,89 @@ fn the_first_statement_is_refused(rt: HostRuntime) -> Result<(), Fail> {
 static SECOND: [(&str, &str); 24] = [
     ("CREATE TABLE t (a INTEGER); SELECT ^b FROM t;", "no column"),
     ("CREATE TABLE t (a INT);;; SELECT ^b FROM t;", "no column"),
-    ("CREATE TABLE t (a INT); EXPLAIN SELECT ^b FROM t;", "no column"),
-    ("CREATE TABLE t (a INT); CREATE TABLE ^T (b INT)", "table exists"),
+    (
+        "CREATE TABLE t (a INT); EXPLAIN SELECT ^b FROM t;",
+        "no column",
+    ),
+    (
+        "CREATE TABLE t (a INT); CREATE TABLE ^T (b INT)",
+        "table exists",
+    ),
     ("CREATE TABLE t (a INT); SELECT a FROM ^u", "no table"),
     ("CREATE TABLE t (a INT); SELECT ^u.a FROM t", "no table"),
-    ("CREATE TABLE t (a INT); COPY t FROM 'f' (HEADER TRUE, ^HEADER TRUE)", "bad option"),
-    ("CREATE TABLE t (a INT); COPY t FROM 'f' (^DELIMITER 'ab')", "bad option"),
-    ("CREATE TABLE t (a INT); SELECT ^a FROM t x CROSS JOIN t y", "ambiguous"),
-    ("CREATE TABLE t (a INT); SELECT a FROM t CROSS JOIN ^T", "duplicate name"),
-    ("CREATE TABLE t (a INT, b TEXT); SELECT a FROM t WHERE a ^= b", "type mismatch"),
-    ("CREATE TABLE t (a INT); SELECT a FROM t WHERE ^a", "type mismatch"),
-    ("CREATE TABLE t (a INT); SELECT ^strange(a) FROM t", "no function"),
-    ("CREATE TABLE t (a INT); SELECT a FROM t WHERE ^count(*) = 1", "aggregate here"),
-    ("CREATE TABLE t (a INT, b INT); SELECT a, ^b FROM t GROUP BY a", "not grouped"),
-    ("CREATE TABLE t (a HUGEINT); SELECT ^sum(a) FROM t", "sum too wide"),
-    ("CREATE TABLE t (a DECIMAL(38)); SELECT a ^+ a FROM t", "decimal too wide"),
-    ("CREATE TABLE t (a INT); SELECT a FROM t ORDER BY ^2", "bad position"),
-    ("CREATE TABLE t (a INT); SELECT a FROM t UNION ^SELECT a, a FROM t", "column count"),
-    ("CREATE TABLE t (a INT); SELECT a ^IN (SELECT a FROM t) FROM t", "in here"),
-    ("CREATE TABLE t (a INT); SELECT ^sum(a), count(DISTINCT a) FROM t", "distinct mix"),
-    ("CREATE TABLE t (a INT); SELECT DATE ^'2023-02-29' FROM t", "bad date"),
+    (
+        "CREATE TABLE t (a INT); COPY t FROM 'f' (HEADER TRUE, ^HEADER TRUE)",
+        "bad option",
+    ),
+    (
+        "CREATE TABLE t (a INT); COPY t FROM 'f' (^DELIMITER 'ab')",
+        "bad option",
+    ),
+    (
+        "CREATE TABLE t (a INT); SELECT ^a FROM t x CROSS JOIN t y",
+        "ambiguous",
+    ),
+    (
+        "CREATE TABLE t (a INT); SELECT a FROM t CROSS JOIN ^T",
+        "duplicate name",
+    ),
+    (
+        "CREATE TABLE t (a INT, b TEXT); SELECT a FROM t WHERE a ^= b",
+        "type mismatch",
+    ),
+    (
+        "CREATE TABLE t (a INT); SELECT a FROM t WHERE ^a",
+        "type mismatch",
+    ),
+    (
+        "CREATE TABLE t (a INT); SELECT ^strange(a) FROM t",
+        "no function",
+    ),
+    (
+        "CREATE TABLE t (a INT); SELECT a FROM t WHERE ^count(*) = 1",
+        "aggregate here",
+    ),
+    (
+        "CREATE TABLE t (a INT, b INT); SELECT a, ^b FROM t GROUP BY a",
+        "not grouped",
+    ),
+    (
+        "CREATE TABLE t (a HUGEINT); SELECT ^sum(a) FROM t",
+        "sum too wide",
+    ),
+    (
+        "CREATE TABLE t (a DECIMAL(38)); SELECT a ^+ a FROM t",
+        "decimal too wide",
+    ),
+    (
+        "CREATE TABLE t (a INT); SELECT a FROM t ORDER BY ^2",
+        "bad position",
+    ),
+    (
+        "CREATE TABLE t (a INT); SELECT a FROM t UNION ^SELECT a, a FROM t",
+        "column count",
+    ),
+    (
+        "CREATE TABLE t (a INT); SELECT a ^IN (SELECT a FROM t) FROM t",
+        "in here",
+    ),
+    (
+        "CREATE TABLE t (a INT); SELECT ^sum(a), count(DISTINCT a) FROM t",
+        "distinct mix",
+    ),
+    (
+        "CREATE TABLE t (a INT); SELECT DATE ^'2023-02-29' FROM t",
+        "bad date",
+    ),
     (
         "CREATE TABLE t (a INT); SELECT b.a FROM t a CROSS JOIN t b CROSS JOIN t c CROSS JOIN t d CROSS JOIN t e CROSS JOIN t f CROSS JOIN t g CROSS JOIN t h CROSS JOIN ^t i",
         "too many tables",
     ),
     // What stands behind a refusal isn't looked at.
-    ("CREATE TABLE t (a INT); SELECT ^b FROM t; SELECT a FROM u", "no column"),
+    (
+        "CREATE TABLE t (a INT); SELECT ^b FROM t; SELECT a FROM u",
+        "no column",
+    ),
 ];
 
 #[test]
@@ -125,16 +188,36 @@ const PLAN: &str = "plan\nscan t filter 0\nproject 1\n\n";
 
 /// The third statement is refused, behind what was written before.
 static THIRD: [(&str, &str, &str); 6] = [
-    ("CREATE TABLE t (a INT); DROP TABLE t; SELECT a FROM ^t;", "", "no table"),
-    ("CREATE TABLE t (a INT); DROP TABLE t; DROP TABLE ^t", "", "no table"),
+    (
+        "CREATE TABLE t (a INT); DROP TABLE t; SELECT a FROM ^t;",
+        "",
+        "no table",
+    ),
+    (
+        "CREATE TABLE t (a INT); DROP TABLE t; DROP TABLE ^t",
+        "",
+        "no table",
+    ),
     (
         "CREATE TABLE a (k INT); CREATE TABLE b (k INT); SELECT ^k FROM a JOIN b ON a.k = b.k",
         "",
         "ambiguous",
     ),
-    ("CREATE TABLE t (a INT); SELECT a FROM t; SELECT ^b FROM t; SELECT a FROM t", PLAN, "no column"),
-    ("CREATE TABLE t (a INT); EXPLAIN SELECT a FROM t; CREATE TABLE ^t (b INT)", PLAN, "table exists"),
-    ("CREATE TABLE t (a INT); COPY t FROM 'f'; COPY ^u FROM 'f'", "", "no table"),
+    (
+        "CREATE TABLE t (a INT); SELECT a FROM t; SELECT ^b FROM t; SELECT a FROM t",
+        PLAN,
+        "no column",
+    ),
+    (
+        "CREATE TABLE t (a INT); EXPLAIN SELECT a FROM t; CREATE TABLE ^t (b INT)",
+        PLAN,
+        "table exists",
+    ),
+    (
+        "CREATE TABLE t (a INT); COPY t FROM 'f'; COPY ^u FROM 'f'",
+        "",
+        "no table",
+    ),
 ];
 
 #[test]
@@ -149,8 +232,20 @@ fn the_third_statement_is_refused(rt: HostRuntime) -> Result<(), Fail> {
 fn places_and_numbers_are_written_as_digits(rt: HostRuntime) -> Result<(), Fail> {
     let alloc = rt.alloc();
     let script = b"CREATE TABLE t (a INTEGER); SELECT b FROM t;";
-    expect(&rt, alloc, script, 1, "error: statement 2 at 35: no column\n")?;
+    expect(
+        &rt,
+        alloc,
+        script,
+        1,
+        "error: statement 2 at 35: no column\n",
+    )?;
     let script = b"CREATE TABLE t (a INTEGER); DROP TABLE t; SELECT a FROM t;";
-    expect(&rt, alloc, script, 1, "error: statement 3 at 56: no table\n")?;
+    expect(
+        &rt,
+        alloc,
+        script,
+        1,
+        "error: statement 3 at 56: no table\n",
+    )?;
     expect(&rt, alloc, b"?", 1, "error: script at 0: bad token\n")
 }

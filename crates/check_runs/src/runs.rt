@@ -13,11 +13,7 @@ pub(crate) const WORDS: &[&str] = &["--check", "s.sql"];
 pub(crate) const ROOM: u32 = 65536;
 
 /// The file `s.sql` with these bytes, where it's there. `failing` is the number, from 1, of the call that fails; 0 is none.
-pub(crate) fn files(
-    alloc: Global,
-    script: Option<&[u8]>,
-    failing: u64,
-) -> Result<MemFiles, Fail> {
+pub(crate) fn files(alloc: Global, script: Option<&[u8]>, failing: u64) -> Result<MemFiles, Fail> {
     let mut named = Vec::new(alloc);
     if let Some(script) = script {
         named.push((

@@ -29,12 +29,18 @@ static WRONG: [(&[&str], &str); 24] = [
     (&["--check", "--page", "2048", "s.sql"], USAGE),
     (&["--check", "--page", "5000", "s.sql"], USAGE),
     (&["--check", "--page", "524288", "s.sql"], USAGE),
-    (&["--check", "--limit", "18446744073709551616", "s.sql"], USAGE),
+    (
+        &["--check", "--limit", "18446744073709551616", "s.sql"],
+        USAGE,
+    ),
     (
         &["--check", "--page", "4096", "--limit", "98303", "s.sql"],
         "usage: 23 frames, 24 needed\n",
     ),
-    (&["--check", "--limit=0", "s.sql"], "usage: 0 frames, 24 needed\n"),
+    (
+        &["--check", "--limit=0", "s.sql"],
+        "usage: 0 frames, 24 needed\n",
+    ),
     (
         &["--check", "--limit=68719480832", "--page=4096", "s.sql"],
         "usage: 16777217 frames, at most 16777216\n",
@@ -70,8 +76,23 @@ static TAKEN: [&[&str]; 9] = [
     &["--check", "s.sql", "--threads", "1"],
     &["--check", "--threads=64", "s.sql"],
     &["--check", "--threads", "064", "s.sql"],
-    &["--check", "--page", "262144", "--threads", "2", "s.sql", "--limit=6291456"],
-    &["--check", "--limit=98304", "--page=4096", "--threads=8", "--", "s.sql"],
+    &[
+        "--check",
+        "--page",
+        "262144",
+        "--threads",
+        "2",
+        "s.sql",
+        "--limit=6291456",
+    ],
+    &[
+        "--check",
+        "--limit=98304",
+        "--page=4096",
+        "--threads=8",
+        "--",
+        "s.sql",
+    ],
     &["--check", "--page=8192", "s.sql"],
 ];
 
