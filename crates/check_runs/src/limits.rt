@@ -11,11 +11,8 @@ const PLANNED: &str = "plan\nscan t filter 0\nproject 1\n\nok\n";
 /// A script with blanks behind it, up to so many bytes.
 fn padded(alloc: Global, script: &str, length: u32) -> Result<String, Fail> {
     let mut text = String::from_str(alloc, script)?;
-    let mut left = length.saturating_sub(script.len() as u32);
-    while left > 0 {
-        text.push(' ')?;
-        left -= 1;
-    }
+    let blanks = repeat(alloc, " ", length.saturating_sub(script.len() as u32))?;
+    text.push_str(blanks.as_str())?;
     Ok(text)
 }
 
