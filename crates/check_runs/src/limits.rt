@@ -9,9 +9,9 @@ use std::test::Fail;
 const PLANNED: &str = "plan\nscan t filter 0\nproject 1\n\nok\n";
 
 /// A script with blanks behind it, up to so many bytes.
-fn padded(alloc: Global, script: &str, length: u32) -> Result<String, Fail> {
+fn padded(alloc: Global, script: &str, length: usize) -> Result<String, Fail> {
     let mut text = String::from_str(alloc, script)?;
-    let blanks = repeat(alloc, " ", length.saturating_sub(script.len() as u32))?;
+    let blanks = repeat(alloc, " ", length.saturating_sub(script.len()))?;
     text.push_str(blanks.as_str())?;
     Ok(text)
 }
@@ -19,12 +19,12 @@ fn padded(alloc: Global, script: &str, length: u32) -> Result<String, Fail> {
 fn expect_length<R: Abort>(
     rt: &R,
     alloc: Global,
-    length: u32,
+    length: usize,
     code: u8,
     out: &str,
 ) -> Result<(), Fail> {
     let script = padded(alloc, "CREATE TABLE t (a INT); SELECT a FROM t;", length)?;
-    assert_eq!(rt; script.len(), length as usize);
+    assert_eq!(rt; script.len(), length);
     expect(rt, alloc, script.as_bytes(), code, out)
 }
 
@@ -38,7 +38,7 @@ fn a_script_has_its_length(rt: HostRuntime) -> Result<(), Fail> {
 }
 
 /// A nesting of so many levels: the text of a level, that behind it, and so on.
-fn nested(alloc: Global, parts: (&str, &str, &str, &str), levels: u32) -> Result<String, Fail> {
+fn nested(alloc: Global, parts: (&str, &str, &str, &str), levels: usize) -> Result<String, Fail> {
     let mut script = String::from_str(alloc, parts.0)?;
     let front = repeat(alloc, parts.1, levels)?;
     script.push_str(front.as_str())?;
@@ -122,7 +122,7 @@ fn expect_text<R: Abort>(
     rt: &R,
     alloc: Global,
     words: &[&str],
-    length: u32,
+    length: usize,
     is_taken: bool,
 ) -> Result<(), Fail> {
     let text = repeat(alloc, "x", length)?;
@@ -151,7 +151,7 @@ fn a_text_has_its_length_by_the_page(rt: HostRuntime) -> Result<(), Fail> {
 fn expect_name<R: Abort>(
     rt: &R,
     alloc: Global,
-    length: u32,
+    length: usize,
     code: u8,
     out: &str,
 ) -> Result<(), Fail> {
@@ -187,7 +187,7 @@ fn expect_columns<R: Abort>(
 fn expect_items<R: Abort>(
     rt: &R,
     alloc: Global,
-    count: u32,
+    count: usize,
     code: u8,
     out: &str,
 ) -> Result<(), Fail> {

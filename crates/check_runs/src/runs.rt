@@ -82,7 +82,7 @@ pub(crate) fn expect<R: Abort>(
 }
 
 /// A text so many times.
-pub(crate) fn repeat(alloc: Global, text: &str, count: u32) -> Result<String, Fail> {
+pub(crate) fn repeat(alloc: Global, text: &str, count: usize) -> Result<String, Fail> {
     let mut all = String::new(alloc);
     for _ in 0..count {
         all.push_str(text)?;
