@@ -2,10 +2,10 @@
 ghost use Rattle.std.specs.Prelude.{◌+◌, ◌≤◌, ◌<◌, length};
 ghost use Rattle.page_body.specs.Keeps.{Kept};
 ghost use Rattle.rebase_pins.specs.RowPages.{IsOwned};
-ghost use Rattle.row_sets.specs.Holds.{nothing, Unpinned};
+ghost use Rattle.row_sets.specs.Holds.{nothing};
 ghost use Rattle.row_sets.specs.Changes.{Changes};
 ghost use Rattle.row_sets.specs.Cursors.{IsPageOf};
-ghost use Rattle.row_sets.specs.Sets.{Formed, IsHere, NoRowPins, set_ids};
+ghost use Rattle.row_sets.specs.Sets.{Formed, IsHere, NoRowPins};
 
 use ooc_types::{Row, SqlType};
 use page_body::{Pages, PoolFault};

@@ -1,4 +1,4 @@
-use Rattle.std.proofs.Common.{◌≡◌, ◌+◌, ◌≤◌, arith}
+use Rattle.std.proofs.Common.{arith}
 use Rattle.row_sets.specs.Holds.{nothing}
 use Rattle.row_sets.proofs.Changed.{changes_none, changes_then}
 use Rattle.row_sets_runs.proofs.Rests.{here_on, alone_on}
