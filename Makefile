@@ -1,6 +1,6 @@
 PROGRAM = crates/oocsql/out/oocsql
 
-.PHONY: program demo test bench
+.PHONY: program demo test bench rows
 
 # Proves and builds the program. `rt run` also runs it once, without words, which only prints its usage.
 program:
@@ -14,5 +14,10 @@ demo: program
 test:
 	rt ci
 
-bench: program
+# Proves and builds the program that is timed over rows on pages.
+rows:
+	test -x crates/row_figures/out/row_figures || (cd crates/row_figures && rt run)
+
+bench: program rows
 	bench/run.sh
+	bench/rows.sh
