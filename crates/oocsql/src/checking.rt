@@ -60,8 +60,9 @@ pub fn check<F: Files, K: Sink>(
         → EndsBy (K.written out.old) (K.written out.new) (Status.Usage fault) result }
     // The check ends as the definition has it, unless a fault from outside or want of memory cuts it.
     ensures ends { IfSome (F.holds files.old) (λ held. EndsOrCut check_outcome (check_settings (words_behind args)) held result) }
-    // Each fault has its cause; no lane is used.
+    // Each fault has its cause; no lane is used. After a read fault its line is all that was written.
     ensures read_fault { result ≡ Status.ReadFault → Rose (F.faults files.old) (F.faults files.new) }
+    ensures read_line { result ≡ Status.ReadFault → EndsBy (K.written out.old) (K.written out.new) Status.ReadFault result }
     ensures write_fault { result ≡ Status.WriteFault → Rose (K.faults out.old) (K.faults out.new) }
     ensures write_told { result ≢ Status.WriteFault → K.faults out.new ≡ K.faults out.old }
     ensures no_lane { IsOfCheck result }

@@ -1,5 +1,5 @@
 -- What a told run tells of its status.
-use Rattle.std.proofs.Common.{◌≡◌, ◌≢◌, ℕ, ◌≤◌, ◌⊎◌, inl, inr, List, Option, None, Some, Result, Ok, Err, refl, sym, arith, subst}
+use Rattle.std.proofs.Common.{◌≡◌, ◌≢◌, ℕ, ◌≤◌, ◌⊎◌, inl, inr, List, Option, None, Some, Result, Ok, Err, refl, sym, ◌∙◌, arith, subst}
 use Rattle.std.specs.Option.{IfSome}
 use Rattle.std.specs.Io.KnownBytes.{Appends}
 use Rattle.std.proofs.lemmas.Option.{IfSome_then}
@@ -9,6 +9,8 @@ use Rattle.run_settings.specs.declared.settings.Settings.{Settings}
 use Rattle.run_settings.specs.declared.status.Status.{Status}
 use Rattle.run_settings.specs.declared.status.Status.TheVariants.{Done, Refused, Usage, ReadFault, WriteFault, SpillFault, SpillDamaged, OutOfMemory}
 use Rattle.run_settings.specs.declared.status.UsageFault.{UsageFault}
+use Rattle.run_settings.specs.Settings.{IsSettings}
+use Rattle.script_opening.specs.Reading.{IsOfFiles, IsOfTexts}
 use Rattle.script_opening.specs.Trees.{MayCut}
 use Rattle.script_says.specs.Outcome.{Does}
 use Rattle.script_says.specs.Runs.{Writes, IsWritten, Ends, EndsOrCut}
@@ -47,3 +49,15 @@ stayed_not {before} {now} stayed rose =
     let same = stayed.0 in
     let low = stayed.1 in
     absurd (omega arith)
+
+-- what a call over texts or files is refused with isn't done
+pub texts_open : (status : Status) → IsOfTexts status → status ≢ Done
+texts_open status of is = subst IsOfTexts is of
+
+pub files_open : (status : Status) → IsOfFiles status → status ≢ Done
+files_open status of is = subst IsOfFiles is of
+
+-- nor are wrong words and want of memory
+pub words_open : (wanted : Result Settings UsageFault) (status : Status) → IsSettings wanted (Err status) → status ≢ Done
+words_open wanted status (inl wrong) is = let h = sym is ∙ wrong.2 in absurd (cc h)
+words_open wanted status (inr memory) is = let h = sym is ∙ memory in absurd (cc h)

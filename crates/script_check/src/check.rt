@@ -68,6 +68,7 @@ fn check_named<F: Files, K: Sink>(
         × Appends (K.written out.old) (K.written out.new) more
         × IsWritten (Writes check_outcome check_closing (Ok settings.now) held) more result) }
     ensures read_fault { result ≡ Status.ReadFault → Rose (F.faults files.old) (F.faults files.new) }
+    ensures read_line { result ≡ Status.ReadFault → EndsBy (K.written out.old) (K.written out.new) Status.ReadFault result }
     ensures later { F.faults files.old ≤ F.faults files.new }
     ensures usage { (fault : _) → result ≢ Status.Usage fault }
     ensures kinds { IsOfCheck result }
@@ -111,8 +112,10 @@ pub fn check_script<F: Files, K: Sink>(
     // Done and each refusal come only where the definition ends the check so; where it does, they come unless a fault from
     // outside or want of memory does.
     ensures ends { IfSome (F.holds files.old) (λ held. EndsOrCut check_outcome (check_settings (words_of words.now)) held result) }
-    // Each fault has its cause; no lane is used.
+    // Each fault has its cause; no lane is used. After a read fault its line is all that was written: no file but the script is
+    // read.
     ensures read_fault { result ≡ Status.ReadFault → Rose (F.faults files.old) (F.faults files.new) }
+    ensures read_line { result ≡ Status.ReadFault → EndsBy (K.written out.old) (K.written out.new) Status.ReadFault result }
     ensures write_fault { result ≡ Status.WriteFault → Rose (K.faults out.old) (K.faults out.new) }
     ensures write_told { result ≢ Status.WriteFault → K.faults out.new ≡ K.faults out.old }
     ensures no_lane { IsOfCheck result }

@@ -7,7 +7,7 @@ use Rattle.ooc_io.specs.Held.{Held}
 use Rattle.sql_grammar.specs.declared.tree.statement.Statement.{Statement}
 use Rattle.run_settings.specs.declared.settings.Settings.{Settings}
 use Rattle.run_settings.specs.declared.status.Status.{Status}
-use Rattle.run_settings.specs.declared.status.Status.TheVariants.{Done, Usage, WriteFault, OutOfMemory}
+use Rattle.run_settings.specs.declared.status.Status.TheVariants.{Done, Usage, ReadFault, WriteFault, OutOfMemory}
 use Rattle.run_settings.specs.declared.status.UsageFault.{UsageFault}
 use Rattle.run_settings.specs.Lines.{line_of}
 use Rattle.script_opening.specs.Trees.{MayCut}
@@ -118,3 +118,15 @@ ends_as old new text status result e = at e.ends
     at : ((result ≡ e.whole) × (e.lost ≡ [])) ⊎ (result ≡ WriteFault) → EndsAs status result
     at (inr failed) = inr (inr failed)
     at (inl is) = which is.0 e.which
+
+-- a run that ends with a read fault has its line
+pub read_line : (old new : Option (List ℕ)) (status result : Status) → EndsBy old new status result → result ≡ ReadFault → EndsBy old new ReadFault result
+read_line old new status result e is = subst (λ (s : Status). EndsBy old new s result) (at e.ends) e
+  where
+    which : result ≡ e.whole → ((e.whole ≡ status) × (e.all ≡ line_of status)) ⊎ ((e.whole ≡ OutOfMemory) × (e.all ≡ line_of OutOfMemory)) → status ≡ ReadFault
+    which ends (inl same) = sym same.0 ∙ sym ends ∙ is
+    which ends (inr memory) = let h = sym memory.0 ∙ sym ends ∙ is in cc
+
+    at : ((result ≡ e.whole) × (e.lost ≡ [])) ⊎ (result ≡ WriteFault) → status ≡ ReadFault
+    at (inl ends) = which ends.0 e.which
+    at (inr failed) = let h = sym failed ∙ is in cc

@@ -1,5 +1,5 @@
 -- What a run writes, whatever its files tell: blocks, and then what ends it.
-use Rattle.std.specs.Prelude.{ℕ, ◌≡◌, ◌⊎◌, List, [], ◌++◌, Option}
+use Rattle.std.specs.Prelude.{ℕ, ◌≡◌, ◌≢◌, ◌⊎◌, List, [], ◌++◌, Option}
 use Rattle.std.specs.Io.KnownBytes.{Appends}
 use Rattle.ooc_types.specs.declared.schema.Column.{Column}
 use Rattle.ooc_types.specs.declared.value.Value.{Value}
@@ -21,7 +21,7 @@ pub data AreBlocks : List ℕ → Type 0 where
 
 -- what ends a run: its closing text where it is done, else the line of its status
 abbrev pub Closes : List ℕ → Status → List ℕ → Type 0
-Closes closing status text = ((status ≡ Done) × (text ≡ closing)) ⊎ (text ≡ line_of status)
+Closes closing status text = ((status ≡ Done) × (text ≡ closing)) ⊎ ((status ≢ Done) × (text ≡ line_of status))
 
 -- some blocks were appended, and what ends the run behind them; or the output failed
 abbrev pub EndsInLine : List ℕ → Option (List ℕ) → Option (List ℕ) → Status → Type 0

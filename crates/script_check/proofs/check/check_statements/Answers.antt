@@ -6,6 +6,7 @@ use Rattle.script_says.specs.Runs.{Run}
 use Rattle.script_says.proofs.SoFar.{Appends-none, SoFar-none, block_written, block_lost, run_stopped, run_done, drop_next}
 use Rattle.script_says.proofs.LastLines.{last_text, last_line, last_closing, grown_nothing, grown_more}
 use Rattle.script_check.specs.Tables.{catalog_in}
+use Rattle.script_check.proofs.Told.{texts_open}
 use Rattle.script_check.proofs.check.check_statements.Goals as goal
 
 pub loop-statement-init : goal.loop-statement-init
@@ -46,7 +47,7 @@ returns-in-Err-clause-says g c =
     run_stopped does check_closing (Run does check_closing 1 no_tables all) l.number (catalog_in l.tables.items) (catalog_in c.check_statement.new.tables.items) _ _ _ is _ _ _ l.invariant.so_far c.in-Err.status c.end.result c.in-Err.ensures.step c.end.ensures.line
 
 pub returns-in-Err-clause-last : goal.returns-in-Err-clause-last
-returns-in-Err-clause-last g c = last_line check_closing _ _ _ c.in-Err.status c.end.result c.loop-statement.invariant.grown c.end.ensures.line
+returns-in-Err-clause-last g c = last_line check_closing _ _ _ c.in-Err.status c.end.result (texts_open c.in-Err.status c.in-Err.ensures.kinds) c.loop-statement.invariant.grown c.end.ensures.line
 
 pub returns-clause-says : goal.returns-clause-says
 returns-clause-says g c =
