@@ -11,3 +11,4 @@ mod GatherLemmas
 mod SourceLemmas
 mod JoinLemmas
 mod WhereLemmas
+mod ItemLemmas

@@ -4,3 +4,5 @@ pub mod Covered
 pub mod Parts
 pub mod Sources
 pub mod Filters
+pub mod Items
+pub mod Cores

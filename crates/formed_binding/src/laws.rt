@@ -42,6 +42,10 @@ ghost use Rattle.sql_clauses.specs.Conditions as clauses;
 ghost use Rattle.sql_clauses.specs.Membership.{member};
 ghost use Rattle.sql_clauses.specs.Copies.{copy_table};
 ghost use Rattle.sql_clauses.specs.Grouping.{group_place, over_group};
+ghost use Rattle.sql_clauses.specs.declared.cores.Selected.{Selected as Shown};
+ghost use Rattle.sql_clauses.specs.declared.items.Outputs.{Outputs as Items};
+ghost use Rattle.sql_clauses.specs.Cores.{unmixed, with_having, without_having};
+ghost use Rattle.sql_clauses.specs.Items.{no_outputs, source_item, star_item, value_item};
 ghost use Rattle.sql_clauses.specs.Joins.{join_on, join_plainly, on_width};
 ghost use Rattle.sql_clauses.specs.Rows.{combined, select_of};
 ghost use Rattle.sql_clauses.specs.Sources.{all_sources, query_source, table_source};
@@ -55,6 +59,7 @@ ghost use Rattle.well_formed.specs.Statements.{IsSchema, IsWellFormed};
 ghost use Rattle.formed_binding.specs.Answers.{OfAnswer};
 ghost use Rattle.formed_binding.specs.Covered.{Covered};
 ghost use Rattle.formed_binding.specs.Filters.{AreConjuncts, IsFilter, IsOperand};
+ghost use Rattle.formed_binding.specs.Items.{AreOutputs, AreShown};
 ghost use Rattle.formed_binding.specs.Named.{AreNamed, AreUnordered, IsSelected};
 ghost use Rattle.formed_binding.specs.Parts.{AreConditions, AreListed, IsChain, IsPart, IsView, calls_at, one_if};
 ghost use Rattle.formed_binding.specs.Sources.{AreAll, AreJoinedAs, AreSources};
@@ -171,4 +176,22 @@ pub fn operands_of_where_are_well_formed()
     ensures joined { (limit : ℕ) (schemas : Schemas) (columns : List Kind) (place : ℕ) (filter : WhereFilter) (operand : WhereOperand) → IsFilter limit schemas columns filter → IsOperand limit schemas columns operand
         → OfAnswer (IsFilter limit schemas columns) (clauses.joined place filter operand) }
     ensures ended { (limit : ℕ) (schemas : Schemas) (columns : List Kind) (place : ℕ) (filter : WhereFilter) → IsFilter limit schemas columns filter → OfAnswer (AreConjuncts limit schemas columns) (clauses.ended place filter) }
+{}
+
+/// An item behind those before it, and `*`: typed with the columns' types, and covered where the core is grouped.
+pub fn items_are_well_formed()
+    ensures none { (view : Scope) (grouped : Bool) (n : ℕ → ℕ) → AreOutputs view grouped n no_outputs }
+    ensures value { (view : Scope) (grouped g : Bool) (n m k : ℕ → ℕ) (alias : Option Place) (outputs : Items) (part : BoundPart) → AreOutputs view grouped m outputs → IsPart view g k part
+        → (g ≡ true → grouped ≡ true) → ((place : ℕ) → m place + k place ≤ n place) → OfAnswer (AreOutputs view grouped n) (value_item view grouped alias outputs part) }
+    ensures star { (view : Scope) (grouped : Bool) (n : ℕ → ℕ) (place : ℕ) → IsView view → (outputs : Items) → AreOutputs view grouped n outputs → OfAnswer (AreOutputs view grouped n) (star_item view grouped place outputs) }
+    ensures source { (view : Scope) (grouped : Bool) (n : ℕ → ℕ) (source : Place) (outputs : Items) → IsView view → AreOutputs view grouped n outputs → OfAnswer (AreOutputs view grouped n) (source_item view grouped source outputs) }
+{}
+
+/// HAVING behind the items of a grouped core: a condition that the keys cover. `count(DISTINCT x)` stands alone.
+pub fn having_is_well_formed()
+    ensures having { (view : Scope) (grouped g : Bool) (n m k : ℕ → ℕ) (place : ℕ) (outputs : Items) (part : BoundPart) → grouped ≡ true → AreOutputs view grouped m outputs → IsPart view g k part
+        → ((place : ℕ) → m place + k place ≤ n place) → OfAnswer (AreShown view grouped n) (with_having place outputs part) }
+    ensures none { (view : Scope) (grouped : Bool) (n : ℕ → ℕ) (outputs : Items) → AreOutputs view grouped n outputs → OfAnswer (AreShown view grouped n) (without_having outputs) }
+    ensures unmixed { (view : Scope) (grouped : Bool) (n : ℕ → ℕ) (selected : Shown) → AreShown view grouped n selected → OfAnswer (AreShown view grouped n) (unmixed selected) }
+    ensures alone { (view : Scope) (grouped : Bool) (n : ℕ → ℕ) (selected : Shown) → AreShown view grouped n selected → OfAnswer (λ shown. are_unmixed shown.outputs.calls ≡ true) (unmixed selected) }
 {}
