@@ -12,3 +12,4 @@ mod SourceLemmas
 mod JoinLemmas
 mod WhereLemmas
 mod ItemLemmas
+mod CoreLemmas

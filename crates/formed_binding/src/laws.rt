@@ -42,6 +42,8 @@ ghost use Rattle.sql_clauses.specs.Conditions as clauses;
 ghost use Rattle.sql_clauses.specs.Membership.{member};
 ghost use Rattle.sql_clauses.specs.Copies.{copy_table};
 ghost use Rattle.sql_clauses.specs.Grouping.{group_place, over_group};
+ghost use Rattle.sql_clauses.specs.declared.cores.Core.{Core as Clauses};
+ghost use Rattle.sql_clauses.specs.declared.rows.Unordered.TheVariants.{Core as CoreOf};
 ghost use Rattle.sql_clauses.specs.declared.cores.Selected.{Selected as Shown};
 ghost use Rattle.sql_clauses.specs.declared.items.Outputs.{Outputs as Items};
 ghost use Rattle.sql_clauses.specs.Cores.{unmixed, with_having, without_having};
@@ -57,6 +59,7 @@ ghost use Rattle.well_formed.specs.From.{MayHave};
 ghost use Rattle.well_formed.specs.Given.{Schemas};
 ghost use Rattle.well_formed.specs.Statements.{IsSchema, IsWellFormed};
 ghost use Rattle.formed_binding.specs.Answers.{OfAnswer};
+ghost use Rattle.formed_binding.specs.Cores.{HasClauses};
 ghost use Rattle.formed_binding.specs.Covered.{Covered};
 ghost use Rattle.formed_binding.specs.Filters.{AreConjuncts, IsFilter, IsOperand};
 ghost use Rattle.formed_binding.specs.Items.{AreOutputs, AreShown};
@@ -194,4 +197,10 @@ pub fn having_is_well_formed()
     ensures none { (view : Scope) (grouped : Bool) (n : ℕ → ℕ) (outputs : Items) → AreOutputs view grouped n outputs → OfAnswer (AreShown view grouped n) (without_having outputs) }
     ensures unmixed { (view : Scope) (grouped : Bool) (n : ℕ → ℕ) (selected : Shown) → AreShown view grouped n selected → OfAnswer (AreShown view grouped n) (unmixed selected) }
     ensures alone { (view : Scope) (grouped : Bool) (n : ℕ → ℕ) (selected : Shown) → AreShown view grouped n selected → OfAnswer (λ shown. are_unmixed shown.outputs.calls ≡ true) (unmixed selected) }
+{}
+
+/// A core whose clauses are well-formed, and whose calls stand at different places, has well-formed rows with the types of
+/// its columns.
+pub fn cores_are_well_formed()
+    ensures { (view : Scope) (core : Clauses) → HasClauses view core → AreUnordered view.limit (columns_of view.tables) (CoreOf core) }
 {}
