@@ -13,3 +13,5 @@ mod JoinLemmas
 mod WhereLemmas
 mod ItemLemmas
 mod CoreLemmas
+mod PlacedNodes
+mod ExprLemmas

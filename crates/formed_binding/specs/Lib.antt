@@ -6,3 +6,5 @@ pub mod Sources
 pub mod Filters
 pub mod Items
 pub mod Cores
+pub mod Placed
+pub mod Keeps

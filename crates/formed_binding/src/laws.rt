@@ -20,6 +20,9 @@ ghost use Rattle.sql_grammar.specs.declared.tree.select.Key.{Key as WrittenKey};
 ghost use Rattle.sql_grammar.specs.declared.tree.select.SetKind.{SetKind as WrittenKind};
 ghost use Rattle.sql_grammar.specs.declared.tree.statement.Column.{Column as WrittenColumn};
 ghost use Rattle.sql_grammar.specs.declared.tree.statement.CopyOption.{CopyOption as WrittenOption};
+ghost use Rattle.sql_grammar.specs.declared.tree.statement.Statement.{Statement as WrittenStatement};
+ghost use Rattle.bind_rules.specs.Bound.{bound_of};
+ghost use Rattle.sql_scope.specs.declared.scope.TableColumns.{TableColumns as Table};
 ghost use Rattle.sql_scope.specs.declared.call.Function.{Function as Aggregating};
 ghost use Rattle.sql_scope.specs.declared.chain.Chain.{Chain as BoundChain};
 ghost use Rattle.sql_scope.specs.declared.chain.Conditions.{Conditions as BoundConditions};
@@ -65,6 +68,7 @@ ghost use Rattle.formed_binding.specs.Filters.{AreConjuncts, IsFilter, IsOperand
 ghost use Rattle.formed_binding.specs.Items.{AreOutputs, AreShown};
 ghost use Rattle.formed_binding.specs.Named.{AreNamed, AreUnordered, IsSelected};
 ghost use Rattle.formed_binding.specs.Parts.{AreConditions, AreListed, IsChain, IsPart, IsView, calls_at, one_if};
+ghost use Rattle.formed_binding.specs.Placed.{StandApart};
 ghost use Rattle.formed_binding.specs.Sources.{AreAll, AreJoinedAs, AreSources};
 
 /// What CREATE TABLE, DROP TABLE and COPY are bound to is well-formed over the tables that are there.
@@ -203,4 +207,10 @@ pub fn having_is_well_formed()
 /// its columns.
 pub fn cores_are_well_formed()
     ensures { (view : Scope) (core : Clauses) → HasClauses view core → AreUnordered view.limit (columns_of view.tables) (CoreOf core) }
+{}
+
+/// What a statement over well-formed tables is bound to is well-formed, where no two calls of a core begin at one token.
+pub fn bound_statements_are_well_formed()
+    ensures { (statement : WrittenStatement) (script : List ℕ) (tables : List Table) (limit : ℕ) (bound : BoundStatement) → StandApart statement → AllByRecursion (λ table. IsSchema table.columns) tables
+        → bound_of statement script tables limit ≡ Ok bound → IsWellFormed limit (columns_of tables) bound }
 {}
