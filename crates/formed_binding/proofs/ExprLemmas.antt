@@ -76,11 +76,8 @@ once (x ∷ xs) e place =
         number m n e = grind arith
 
 pub behind-any : {A B : Type 0} (Q : B → Type 0) (m : Answer A) (f : A → Answer B) → ((a : A) → OfAnswer Q (f a)) → OfAnswer Q (m >>= f)
-behind-any Q m f step = on-answer (λ a. (0 ≡ 0)) Q m f (by m) (λ a h. step a)
-  where
-    by : {A : Type 0} (m : Answer A) → OfAnswer (λ (a : A). (0 ≡ 0)) m
-    by (Err refusal) = tt
-    by (Ok a) = refl
+behind-any Q (Err refusal) f step = tt
+behind-any Q (Ok a) f step = step a
 
 -- ---- parts
 

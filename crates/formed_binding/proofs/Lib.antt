@@ -15,3 +15,7 @@ mod ItemLemmas
 mod CoreLemmas
 mod PlacedNodes
 mod ExprLemmas
+mod ClauseLemmas
+mod RowsLemmas
+mod InductionLemmas
+mod StatementLemmas
