@@ -359,12 +359,12 @@ abbrev group_places : List ExprFact → Placed
 group_places group = all_of (map expr_places (map (λ (y : ExprFact). y.0) group))
 
 record CoreApart (items : List ItemFact) (first : SourceFact) (joins : List JoinFact) (filter : Option ConditionFact) (group : List ExprFact) (having : Option ConditionFact) : Type 0 where
-  items : (items_places items).apart ≡ true
-  first : (source_places first.0).apart ≡ true
-  joins : (joins_places joins).apart ≡ true
-  filter : (if_there (some_places filter)).apart ≡ true
-  group : (group_places group).apart ≡ true
-  having : (if_there (some_places having)).apart ≡ true
+  items_apart : (items_places items).apart ≡ true
+  first_apart : (source_places first.0).apart ≡ true
+  joins_apart : (joins_places joins).apart ≡ true
+  filter_apart : (if_there (some_places filter)).apart ≡ true
+  group_apart : (group_places group).apart ≡ true
+  having_apart : (if_there (some_places having)).apart ≡ true
   different : are_different ((items_places items).calls ++ (if_there (some_places having)).calls) ≡ true
 
 opened : (items : List ItemFact) (first : SourceFact) (joins : List JoinFact) (filter : Option ConditionFact) (group : List ExprFact) (having : Option ConditionFact)
@@ -383,7 +383,7 @@ opened items first joins filter group having apart =
     let rest = and_parts (s.apart && j.apart) (f.apart && g.apart) q.1 in
     let from = and_parts s.apart j.apart rest.0 in
     let last = and_parts f.apart g.apart rest.1 in
-    record { items = own.0; first = from.0; joins = from.1; filter = last.0; group = last.1; having = own.1; different = p.0 }
+    record { items_apart = own.0; first_apart = from.0; joins_apart = from.1; filter_apart = last.0; group_apart = last.1; having_apart = own.1; different = p.0 }
 
 abbrev KeptRows : RowsBinding → Placed → Type 0
 KeptRows b c = c.apart ≡ true → kept.OfRows b
@@ -402,14 +402,14 @@ core-kept place distinct items first joins filter group having conditions apart 
     let aggregated = some_of (selects.aggregates_of view.script) bs in
     whole-core view schemas place distinct grouped bs (map join_binding (map (λ (y : JoinFact). y.0) joins)) (some_binding filter) gs has
     (map item_places (map of_all items)) (map expr_places (map (λ (y : ExprFact). y.0) group)) (if_there (some_places filter)).calls (some_places having)
-    (each-alone join_binding join_places OfJoin kept.OfJoin (λ x of a. of a) joins apart.joins)
-    (conditions filter apart.filter)
-    (each-part expr_binding expr_places OfExpr kept.OfExpr (λ x of a. of a) group apart.group)
-    (each-part item_binding item_places OfItem kept.OfItem (λ x of a. of a) items apart.items)
-    (conditions having apart.having)
+    (each-alone join_binding join_places OfJoin kept.OfJoin (λ x of a. of a) joins apart.joins_apart)
+    (conditions filter apart.filter_apart)
+    (each-part expr_binding expr_places OfExpr kept.OfExpr (λ x of a. of a) group apart.group_apart)
+    (each-part item_binding item_places OfItem kept.OfItem (λ x of a. of a) items apart.items_apart)
+    (conditions having apart.having_apart)
     (λ e. right-stands (selects.has_some gs || is_some has) aggregated e)
     (λ e. left-stands (selects.has_some gs || is_some has) aggregated (right-stands (selects.has_some gs) (is_some has) e))
-    apart.different (source_binding first.0) (first.1 apart.first)
+    apart.different (source_binding first.0) (first.1 apart.first_apart)
 
 if-condition : (f : Option ConditionFact) → (if_there (some_places f)).apart ≡ true → kept.IfCondition (some_binding f) (if_there (some_places f)).calls
 if-condition None apart = tt
