@@ -1,60 +1,47 @@
 -- What the clauses of a core keep, and rows and a SELECT whole.
-use Rattle.std.proofs.Common.{◌≡◌, ℕ, zero, suc, ◌+◌, ◌≤◌, Bool, true, false, List, [], ◌∷◌, ◌++◌, map, length, refl, sym, ap, ◌∙◌, subst, Option, Some, None, Ok, Err, cond, arith, length-append}
-use Rattle.std.specs.Prelude.{◌||◌, ◌&&◌, ⊤, take, is_some}
+use Rattle.std.proofs.Common.{◌≡◌, ℕ, zero, suc, ◌≤◌, Bool, true, false, List, [], ◌∷◌, ◌++◌, map, length, refl, sym, ap, subst, Option, Some, None, Ok, Err, arith}
+use Rattle.std.specs.Prelude.{take, is_some}
 use Rattle.std.specs.List.{AllByRecursion}
-use Rattle.std.proofs.lemmas.Bool.{and_parts}
 use Rattle.ooc_types.specs.declared.schema.SqlType.{SqlType}
 use Rattle.sql_expr.specs.declared.tree.Expr.{Expr as Tree}
 use Rattle.sql_expr.specs.Operations.{IsProper}
 use Rattle.bound_tree.specs.declared.kinds.JoinKind.{JoinKind}
-use Rattle.bound_tree.specs.declared.kinds.JoinKind.TheVariants.{First, Inner, Left, Cross}
+use Rattle.bound_tree.specs.declared.kinds.JoinKind.TheVariants.{First, Cross}
 use Rattle.bound_tree.specs.declared.select.BoundSource.{BoundSource}
-use Rattle.bound_tree.specs.declared.select.BoundRows.TheViews.{out-BoundSource}
-use Rattle.sql_scope.specs.declared.part.Part.{Part}
 use Rattle.sql_scope.specs.declared.scope.ScopeColumn.{ScopeColumn}
 use Rattle.sql_scope.specs.Answer.{Answer, ◌>>=◌, each}
-use Rattle.sql_scope.specs.Scopes.{View, columns_of, front, kinds, over_columns, over_keys}
-use Rattle.sql_clauses.specs.declared.cores.NamedRows.{NamedRows}
+use Rattle.sql_scope.specs.Scopes.{View, columns_of, front, kinds}
 use Rattle.sql_clauses.specs.declared.cores.Selected.{Selected}
 use Rattle.sql_clauses.specs.declared.items.Outputs.{Outputs}
 use Rattle.sql_clauses.specs.declared.joins.Joined.{Joined}
 use Rattle.sql_clauses.specs.declared.sources.Sources.{Sources}
 use Rattle.sql_clauses.specs.Aggregates.{are_unmixed}
 use Rattle.sql_clauses.specs.Conditions.{ended}
-use Rattle.sql_clauses.specs.Cores.{unmixed, with_having, without_having}
+use Rattle.sql_clauses.specs.Cores.{unmixed, with_having}
 use Rattle.sql_clauses.specs.Items.{no_outputs}
 use Rattle.sql_clauses.specs.Joins.{join_on, join_plainly, on_width}
-use Rattle.sql_clauses.specs.Rows.{combined, finished_rows, select_of, with_key}
+use Rattle.sql_clauses.specs.Rows.{with_key}
 use Rattle.sql_clauses.specs.Sources.{all_sources, no_sources}
 use Rattle.bind_rules.specs.declared.cores.Filtered.{Filtered}
-use Rattle.bind_rules.specs.declared.cores.Shown.{Shown}
-use Rattle.bind_rules.specs.Bindings.{ExprBinding, ConditionBinding, RowsBinding, ItemBinding, SetBinding, SourceBinding, JoinBinding}
+use Rattle.bind_rules.specs.Bindings.{ExprBinding, ConditionBinding, ItemBinding, SourceBinding, JoinBinding}
 use Rattle.bind_rules.specs.Cores as cores
 use Rattle.bind_rules.specs.Expressions.{some_of}
-use Rattle.bind_rules.specs.From.{begun, join_kind}
+use Rattle.bind_rules.specs.From.{join_kind}
 use Rattle.bind_rules.specs.Selects as selects
 use Rattle.well_formed.specs.Exprs.{IsExpr}
-use Rattle.well_formed.specs.From.{BeginsOnce, IsFrom, IsLater, MayHave, names_of}
-use Rattle.well_formed.specs.Given.{kinds_of_sources}
-use Rattle.well_formed.specs.Names.{AreApart}
-use Rattle.well_formed.specs.Rows.{IsWellFormedSource}
+use Rattle.well_formed.specs.From.{IsLater, MayHave}
 use Rattle.formed_binding.specs.Answers.{OfAnswer}
 use Rattle.formed_binding.specs.Filters.{AreConjuncts, IsFilter}
 use Rattle.formed_binding.specs.Items.{AreOutputs, AreShown}
-use Rattle.formed_binding.specs.Keeps.{EachOf, HasSchemas, IfCondition, OfCondition, OfExpr, OfItem, OfJoin, OfRows, OfSelect, OfSet, OfSource}
-use Rattle.formed_binding.specs.Named.{AreNamed, AreUnordered, IsSelected}
+use Rattle.formed_binding.specs.Keeps.{EachOf, HasSchemas, IfCondition, OfCondition, OfExpr, OfItem, OfJoin, OfSource}
 use Rattle.formed_binding.specs.Parts.{IsPart, IsView}
-use Rattle.formed_binding.specs.Placed.{Placed, all_of, are_different, both, count, if_there}
+use Rattle.formed_binding.specs.Placed.{Placed, all_of, are_different, count, if_there}
 use Rattle.formed_binding.specs.Sources.{AreAll, AreJoinedAs, AreSources}
-use Rattle.formed_binding.proofs.CoreLemmas.{core-formed}
-use Rattle.formed_binding.proofs.EachLemmas.{any-answer, of-answer, on-answer, whenever}
+use Rattle.formed_binding.proofs.EachLemmas.{on-answer}
 use Rattle.formed_binding.proofs.ExprLemmas.{once, sum}
 use Rattle.formed_binding.proofs.Facts.{left-stands, no-calls, part-expr, right-stands}
-use Rattle.formed_binding.proofs.GatherLemmas.{length-map}
 use Rattle.formed_binding.proofs.ItemLemmas.{alone-next, having-next, none-shown, unmixed-next, without-next}
 use Rattle.formed_binding.proofs.JoinLemmas.{joined-on, plainly-joined}
-use Rattle.formed_binding.proofs.OrderLemmas.{select-formed}
-use Rattle.formed_binding.proofs.SetLemmas.{combined-named}
 use Rattle.formed_binding.proofs.SourceLemmas.{all-there, append-assoc, append-nothing}
 use Rattle.formed_binding.proofs.TableLemmas.{all-behind}
 use Rattle.formed_binding.proofs.WhereLemmas.{ended-formed}

@@ -1,10 +1,9 @@
 -- A core, once its clauses are bound.
-use Rattle.std.proofs.Common.{◌≡◌, ℕ, ◌+◌, ◌≤◌, Bool, true, false, nat_le, List, [], ◌∷◌, ◌++◌, map, length, refl, sym, ap, ◌∙◌, subst, Option, Some, None, Ok, cond, arith, inl, inr}
-use Rattle.std.specs.Prelude.{◌&&◌, IfSome}
+use Rattle.std.proofs.Common.{◌≡◌, ℕ, ◌+◌, ◌≤◌, Bool, true, false, nat_le, List, [], ◌∷◌, ◌++◌, map, length, refl, sym, ap, ◌∙◌, subst, Option, Some, None, cond, arith, inl, inr}
+use Rattle.std.specs.Prelude.{IfSome}
 use Rattle.std.specs.List.{AllByRecursion}
 use Rattle.std.proofs.lemmas.Bool.{and_parts, leb-true}
 use Rattle.ooc_types.specs.declared.schema.SqlType.{SqlType}
-use Rattle.ooc_types.specs.declared.schema.SqlType.TheVariants.{Boolean}
 use Rattle.ooc_types.specs.declared.refusal.RefusalKind.TheVariants.{TooManyColumns}
 use Rattle.sql_expr.specs.declared.tree.Expr.{Expr}
 use Rattle.sql_expr.specs.Kinds.{kind_of}
@@ -26,25 +25,23 @@ use Rattle.sql_scope.specs.declared.part.Call.{Call}
 use Rattle.sql_scope.specs.declared.scope.ScopeColumn.{ScopeColumn}
 use Rattle.sql_scope.specs.Scopes.{View, columns_of, kinds}
 use Rattle.sql_clauses.specs.declared.cores.Core.{Core as Clauses}
-use Rattle.sql_clauses.specs.declared.cores.NamedRows.{NamedRows}
 use Rattle.sql_clauses.specs.declared.rows.Unordered.TheVariants.{Core}
 use Rattle.sql_clauses.specs.Aggregates.{gathered}
-use Rattle.sql_clauses.specs.Conditions.{conjuncts}
 use Rattle.sql_clauses.specs.Cores.{core_rows, finished, grouped_rows, grouped_trees, having_over, is_narrow, most_items, plain_rows, rows_of}
-use Rattle.sql_clauses.specs.Grouping.{group_place, list_over, over_group}
+use Rattle.sql_clauses.specs.Grouping.{group_place, over_group}
 use Rattle.sql_clauses.specs.Tables.{most_columns}
 use Rattle.typed_scope.specs.Typed.{AreSeen, IsCalled, IsTypedOver, seen_of}
 use Rattle.well_formed.specs.Aggregates.{IsAggregate, IsGrouping}
 use Rattle.well_formed.specs.Cores.{IsConjunct, IsCoreNode}
 use Rattle.well_formed.specs.Exprs.{IsCondition, IsExpr}
 use Rattle.well_formed.specs.From.{IsSourceNode}
-use Rattle.well_formed.specs.Given.{Schemas, kinds_in_rows, kinds_of_columns, kinds_of_core, kinds_of_group, kinds_of_rows, kinds_of_sources}
+use Rattle.well_formed.specs.Given.{Schemas, kinds_in_rows, kinds_of_rows}
 use Rattle.well_formed.specs.Rows.{AnyConjunct, AnyInput, AreWellFormedRows, IsRowsNode, IsSelectNode, IsWellFormedConjunct, IsWellFormedSource}
 use Rattle.well_formed.proofs.Parts.{core_made, rows_made}
 use Rattle.formed_binding.specs.Answers.{OfAnswer}
 use Rattle.formed_binding.specs.Cores.{HasClauses, seen_by}
 use Rattle.formed_binding.specs.Covered.{Covered}
-use Rattle.formed_binding.specs.Items.{AreOutputs, AreShown, IsTested}
+use Rattle.formed_binding.specs.Items.{IsTested}
 use Rattle.formed_binding.specs.Named.{AreNamed, AreUnordered}
 use Rattle.formed_binding.specs.Parts.{AreCalls, calls_at}
 use Rattle.formed_binding.proofs.EachLemmas.{asked-for, of-answer}

@@ -1,13 +1,10 @@
 -- What an expression keeps, by what its operands keep.
-use Rattle.std.proofs.Common.{◌≡◌, ℕ, ◌+◌, ◌≤◌, Bool, true, false, ◌==◌, List, [], ◌∷◌, ◌++◌, map, refl, sym, ap, ◌∙◌, subst, Option, Some, None, Ok, Err, cond, arith}
-use Rattle.std.specs.Prelude.{◌||◌, ◌&&◌, not, is_some}
+use Rattle.std.proofs.Common.{◌≡◌, ℕ, ◌+◌, ◌≤◌, Bool, true, false, ◌==◌, List, [], ◌∷◌, ◌++◌, refl, sym, subst, Option, Some, None, Ok, Err, arith}
+use Rattle.std.specs.Prelude.{◌||◌, not, is_some}
 use Rattle.std.proofs.lemmas.Bool.{and_parts}
-use Rattle.sql_expr.specs.declared.tree.Expr.{Expr as Tree}
-use Rattle.bound_tree.specs.declared.select.BoundSelect.{BoundSelect}
 use Rattle.sql_grammar.specs.declared.tree.expr.CompareSign.{CompareSign}
 use Rattle.sql_grammar.specs.declared.tree.expr.Constant.{Constant}
 use Rattle.sql_grammar.specs.declared.tree.expr.Span.{Span}
-use Rattle.sql_grammar.specs.declared.tree.expr.Argument.TheOpen.{Argument-F, Expr-F}
 use Rattle.sql_scope.specs.declared.call.Function.{Function}
 use Rattle.sql_scope.specs.declared.chain.Chain.{Chain}
 use Rattle.sql_scope.specs.declared.chain.Conditions.{Conditions}
@@ -32,8 +29,8 @@ use Rattle.formed_binding.specs.Parts.{AreConditions, AreListed, IsChain, IsPart
 use Rattle.formed_binding.specs.Placed.{Placed, all_of, are_different, count, is_among}
 use Rattle.formed_binding.proofs.EachLemmas.{on-answer}
 use Rattle.formed_binding.proofs.Facts.{calls-more, left-stands, no-calls, part-expr, right-stands}
-use Rattle.formed_binding.proofs.NodeLemmas.{column-part, distinct-part, literal-part, star-part, value-part}
-use Rattle.formed_binding.proofs.OperationLemmas.{begun-chain, between-part, comparison-part, constants-listed, either-part, ended-part, every-part, joined-conditions, like-part, linked-chain, minus-part, negation-part, null-part, one-of-part, started-conditions}
+use Rattle.formed_binding.proofs.NodeLemmas.{distinct-part, star-part, value-part}
+use Rattle.formed_binding.proofs.OperationLemmas.{begun-chain, between-part, comparison-part, constants-listed, either-part, ended-part, every-part, joined-conditions, linked-chain, one-of-part, started-conditions}
 use Rattle.formed_binding.proofs.SourceLemmas.{append-assoc, append-nothing}
 use Rattle.formed_binding.proofs.WhereLemmas.{begun-formed, joined-formed, member-formed, plain-formed}
 

@@ -1,6 +1,6 @@
 -- What every part of a statement's tree keeps.
-use Rattle.std.proofs.Common.{◌≡◌, ℕ, Bool, true, false, List, [], ◌∷◌, ◌++◌, map, sym, ap, subst, refl, Option, Some, None, Ok}
-use Rattle.std.specs.Prelude.{⊤, ◌&&◌, ◌||◌, is_some}
+use Rattle.std.proofs.Common.{◌≡◌, ℕ, Bool, true, false, List, [], ◌∷◌, ◌++◌, map, sym, ap, subst, Option, Some, None}
+use Rattle.std.specs.Prelude.{◌&&◌, ◌||◌, is_some}
 use Rattle.std.specs.List.{AllByRecursion}
 use Rattle.std.proofs.lemmas.Bool.{and_parts}
 use Rattle.sql_grammar.specs.declared.tree.expr.Argument.{Argument}
@@ -18,13 +18,12 @@ use Rattle.sql_grammar.specs.declared.tree.expr.Argument.TheOpen.{Argument-F, Ex
 use Rattle.sql_grammar.specs.declared.tree.expr.Argument.TheViews.{roll-Argument, roll-Expr, roll-Item, roll-Join, roll-Rows, roll-Source, out-roll-Argument, out-roll-Expr, out-roll-Item, out-roll-Join, out-roll-Rows, out-roll-Source}
 use Rattle.sql_grammar.specs.declared.tree.expr.Argument.TheFolds.{ind-Select, map-Argument, map-Expr, map-Item, map-Join, map-Rows, map-Source}
 use Rattle.sql_scope.specs.Answer.{◌>>=◌}
-use Rattle.sql_scope.specs.Calls.{star_call}
 use Rattle.sql_scope.specs.Parts as parts
 use Rattle.sql_scope.specs.Scopes.{View, columns_of, kinds}
 use Rattle.sql_clauses.specs.Conditions.{plain_operand}
 use Rattle.sql_clauses.specs.Items.{star_item, source_item, value_item}
 use Rattle.sql_clauses.specs.Sources.{query_source}
-use Rattle.bind_rules.specs.Bindings.{ExprBinding, ArgumentBinding, ItemBinding, RowsBinding, SourceBinding, JoinBinding, OperandBinding, LinkBinding, ConditionBinding, SetBinding}
+use Rattle.bind_rules.specs.Bindings.{ExprBinding, ArgumentBinding, ItemBinding, RowsBinding, SourceBinding, JoinBinding, OperandBinding, LinkBinding, ConditionBinding}
 use Rattle.bind_rules.specs.Bound.{argument_binding, item_binding, link_binding, expr_binding, operand_binding, condition_binding, select_binding, rows_binding, set_binding, source_binding, join_binding}
 use Rattle.bind_rules.specs.Expressions as rules
 use Rattle.bind_rules.specs.Expressions.{some_of}

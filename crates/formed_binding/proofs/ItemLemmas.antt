@@ -1,12 +1,11 @@
 -- The items of a core, and its HAVING.
 use Rattle.std.proofs.Common.{◌≡◌, ℕ, zero, suc, ◌+◌, ◌≤◌, Bool, true, false, List, [], ◌∷◌, ◌++◌, map, length, refl, sym, ap, ◌∙◌, subst, Option, Some, None, Ok, cond, arith, inl}
-use Rattle.std.specs.Prelude.{slice_get, IfSome}
+use Rattle.std.specs.Prelude.{slice_get}
 use Rattle.std.specs.List.{AllByRecursion}
 use Rattle.ooc_types.specs.declared.schema.Column.{Column as Declared}
 use Rattle.ooc_types.specs.declared.schema.SqlType.{SqlType}
 use Rattle.ooc_types.specs.declared.schema.SqlType.TheVariants.{Boolean}
 use Rattle.ooc_types.specs.declared.refusal.RefusalKind.TheVariants.{DistinctMix, NoTable, TypeMismatch}
-use Rattle.sql_expr.specs.declared.tree.Expr.{Expr}
 use Rattle.sql_expr.specs.declared.tree.Expr.TheOpen.{Expr-F}
 use Rattle.sql_expr.specs.declared.tree.Expr.TheVariants.{Column, rolls-Column}
 use Rattle.sql_expr.specs.declared.tree.Expr.TheViews.{out-Expr, out-roll-Expr}
@@ -19,7 +18,7 @@ use Rattle.sql_grammar.specs.declared.tree.expr.Span.{Span}
 use Rattle.sql_scope.specs.declared.scope.ScopeColumn.{ScopeColumn}
 use Rattle.sql_scope.specs.declared.part.Call.{Call}
 use Rattle.sql_scope.specs.declared.part.Part.{Part}
-use Rattle.sql_scope.specs.Answer.{Answer, ◌>>=◌, each, unless}
+use Rattle.sql_scope.specs.Answer.{◌>>=◌, each, unless}
 use Rattle.sql_scope.specs.Operations.{is_boolean}
 use Rattle.sql_scope.specs.Parts.{part_of}
 use Rattle.sql_scope.specs.Scopes.{Spot, View, kinds, spots}
@@ -30,12 +29,12 @@ use Rattle.sql_clauses.specs.Aggregates.{are_unmixed, first_call}
 use Rattle.sql_clauses.specs.Conditions.{condition}
 use Rattle.sql_clauses.specs.Cores.{unmixed, with_having, with_test}
 use Rattle.sql_clauses.specs.Items.{column_item, covered, is_any, is_of_source, is_source, no_outputs, output_name, plain_column, source_columns, source_item, star_item, value_item, with_bare, with_output}
-use Rattle.typed_scope.specs.Typed.{AreSeen, IsTypedNodeOver, IsTypedOver, seen_of}
+use Rattle.typed_scope.specs.Typed.{IsTypedNodeOver, IsTypedOver, seen_of}
 use Rattle.typed_scope.proofs.PartLemmas.{back, front, truth-kind}
 use Rattle.formed_binding.specs.Answers.{OfAnswer}
 use Rattle.formed_binding.specs.Covered.{Covered}
-use Rattle.formed_binding.specs.Items.{AreOutputs, AreShown, IsTested}
-use Rattle.formed_binding.specs.Parts.{IsPart, IsView, calls_at}
+use Rattle.formed_binding.specs.Items.{AreOutputs, AreShown}
+use Rattle.formed_binding.specs.Parts.{IsPart, IsView}
 use Rattle.formed_binding.proofs.EachLemmas.{asked-for, each-of, on-answer}
 use Rattle.formed_binding.proofs.Facts.{made}
 use Rattle.formed_binding.proofs.OperationLemmas.{joined-calls}

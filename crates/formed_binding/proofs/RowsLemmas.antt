@@ -1,20 +1,17 @@
 -- A core put together of its clauses, set operations, and a SELECT whole.
-use Rattle.std.proofs.Common.{◌≡◌, ℕ, ◌+◌, ◌≤◌, Bool, true, false, List, [], ◌∷◌, ◌++◌, map, length, refl, sym, ap, ◌∙◌, subst, Option, Some, None, Ok, Err, arith}
-use Rattle.std.specs.Prelude.{◌||◌, ⊤, is_some}
+use Rattle.std.proofs.Common.{◌≡◌, ℕ, ◌≤◌, Bool, true, List, [], ◌∷◌, ◌++◌, map, length, refl, sym, ap, ◌∙◌, subst, Option, Ok, arith}
+use Rattle.std.specs.Prelude.{is_some}
 use Rattle.std.specs.List.{AllByRecursion}
-use Rattle.ooc_types.specs.declared.schema.SqlType.{SqlType}
 use Rattle.sql_expr.specs.declared.tree.Expr.{Expr as Tree}
 use Rattle.bound_tree.specs.declared.kinds.JoinKind.{JoinKind}
 use Rattle.bound_tree.specs.declared.kinds.JoinKind.TheVariants.{First}
 use Rattle.bound_tree.specs.declared.select.BoundSource.{BoundSource}
 use Rattle.bound_tree.specs.declared.select.BoundRows.TheViews.{out-BoundSource}
 use Rattle.sql_scope.specs.declared.scope.ScopeColumn.{ScopeColumn}
-use Rattle.sql_scope.specs.Answer.{Answer, ◌>>=◌, each}
+use Rattle.sql_scope.specs.Answer.{◌>>=◌}
 use Rattle.sql_scope.specs.Scopes.{View, columns_of, kinds, over_columns, over_keys}
 use Rattle.sql_clauses.specs.declared.cores.NamedRows.{NamedRows}
-use Rattle.sql_clauses.specs.declared.cores.Selected.{Selected}
 use Rattle.sql_clauses.specs.declared.rows.Unordered.{Unordered}
-use Rattle.sql_clauses.specs.declared.rows.Unordered.TheVariants.{Core, Set}
 use Rattle.sql_clauses.specs.declared.sources.Sources.{Sources}
 use Rattle.sql_clauses.specs.Rows.{combined, finished_rows, select_of}
 use Rattle.bind_rules.specs.declared.cores.Filtered.{Filtered}
@@ -30,7 +27,6 @@ use Rattle.well_formed.specs.From.{BeginsOnce, IsFirst, IsFrom, IsLater, names_o
 use Rattle.well_formed.specs.Given.{kinds_of_sources}
 use Rattle.well_formed.specs.Names.{AreApart}
 use Rattle.formed_binding.specs.Answers.{OfAnswer}
-use Rattle.formed_binding.specs.Cores.{HasClauses}
 use Rattle.formed_binding.specs.Keeps.{EachOf, HasSchemas, IfCondition, OfExpr, OfItem, OfJoin, OfRows, OfSelect, OfSet, OfSource}
 use Rattle.formed_binding.specs.Named.{AreNamed, AreUnordered, IsSelected}
 use Rattle.formed_binding.specs.Parts.{IsView}
@@ -39,7 +35,6 @@ use Rattle.formed_binding.specs.Sources.{AreAll, AreJoinedAs}
 use Rattle.formed_binding.proofs.ClauseLemmas.{IsChosen, IsFilteredOver, filtered-kept, joins-later, joins_of, keys-kept, selected-kept, sources-kept}
 use Rattle.formed_binding.proofs.CoreLemmas.{core-formed}
 use Rattle.formed_binding.proofs.EachLemmas.{each-of, on-answer, whenever}
-use Rattle.formed_binding.proofs.Facts.{left-stands, right-stands}
 use Rattle.formed_binding.proofs.GatherLemmas.{length-map}
 use Rattle.formed_binding.proofs.OrderLemmas.{select-formed}
 use Rattle.formed_binding.proofs.SetLemmas.{combined-named}

@@ -5,7 +5,6 @@ use Rattle.bound_tree.specs.declared.statement.Bound.{Bound}
 use Rattle.sql_grammar.specs.declared.tree.statement.Statement.{Statement}
 use Rattle.sql_grammar.specs.declared.tree.statement.Statement.TheVariants as statement
 use Rattle.sql_scope.specs.declared.scope.TableColumns.{TableColumns}
-use Rattle.sql_scope.specs.Answer.{◌>>=◌}
 use Rattle.sql_scope.specs.Scopes.{View, columns_of}
 use Rattle.bind_rules.specs.Bound.{bound_of, bound_over, explained, select_binding, selected_rows, view_of}
 use Rattle.well_formed.specs.Statements.{IsSchema, IsWellFormed}

@@ -1,7 +1,6 @@
 -- What each part of a statement's tree keeps: what it is bound to is well-formed, and its calls are among those written.
 use Rattle.std.specs.Prelude.{◌≡◌, ℕ, Bool, true, false, List, [], ◌∷◌, ◌++◌, Option, Some, None, ⊤}
 use Rattle.std.specs.List.{AllByRecursion}
-use Rattle.sql_expr.specs.declared.tree.Expr.{Expr}
 use Rattle.bound_tree.specs.declared.kinds.JoinKind.{JoinKind}
 use Rattle.sql_grammar.specs.declared.tree.expr.Span.{Span}
 use Rattle.sql_scope.specs.Calls.{function_of}
