@@ -52,7 +52,7 @@ abbrev pub if_there : Option Placed → Placed
 if_there None = nowhere
 if_there (Some part) = part
 
--- what has calls of its own, as a subquery and ON, or none, as the argument of a call
+-- its calls do not count further up: those of a subquery are of its own cores, and in ON and in an argument none may stand
 abbrev pub inside : Placed → Placed
 inside part = record { calls = []; apart = part.apart }
 
