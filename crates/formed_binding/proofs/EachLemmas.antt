@@ -1,6 +1,7 @@
 -- What a list that is gone through from left to right keeps.
 use Rattle.std.proofs.Common.{◌≡◌, List, [], ◌∷◌, refl, subst, Ok, Err, Bool, true, false, ℕ}
 use Rattle.std.specs.Prelude.{Option, Some, None}
+use Rattle.std.specs.List.{AllByRecursion}
 use Rattle.ooc_types.specs.declared.refusal.RefusalKind.{RefusalKind}
 use Rattle.formed_binding.specs.Answers.{OfAnswer}
 use Rattle.sql_scope.specs.Answer.{Answer, Refusal, ◌>>=◌, each, or_refuse, unless}
@@ -17,6 +18,12 @@ on-answer P Q (Ok a) f fact step = step a fact
 pub each-keeps : {A X : Type 0} (P : A → Type 0) (step : X → A → Answer A) (m : Answer A) (list : List X) → OfAnswer P m → ((x : X) (a : A) → P a → OfAnswer P (step x a)) → OfAnswer P (each step m list)
 each-keeps P step m [] fact keeps = fact
 each-keeps P step m (x ∷ list) fact keeps = each-keeps P step (m >>= step x) list (on-answer P P m (step x) fact (keeps x)) keeps
+
+-- the same, of items of which something is known
+pub each-of : {A X : Type 0} (P : A → Type 0) (Of : X → Type 0) (step : X → A → Answer A) (m : Answer A) (list : List X) → OfAnswer P m → ((x : X) (a : A) → Of x → P a → OfAnswer P (step x a)) → AllByRecursion Of list → OfAnswer P (each step m list)
+each-of P Of step m [] fact keeps all = fact
+each-of P Of step m (x ∷ list) fact keeps all =
+    each-of P Of step (m >>= step x) list (on-answer P P m (step x) fact (λ a h. keeps x a all.0 h)) keeps all.1
 
 -- what was asked for holds
 pub asked-for : {A : Type 0} (P : A → Type 0) (holds : Bool) (place : ℕ) (kind : RefusalKind) (a : A) → (holds ≡ true → P a) → OfAnswer P (unless holds place kind a)

@@ -336,7 +336,7 @@ group-key keys more e key is =
     let n : k.0 ≡ key = let h = k.1.0 in omega arith in
     subst (λ (i : ℕ). slice_get (map kind_of keys ++ more) i ≡ Some (kind_of e)) n (slice-more (map kind_of keys) more k.0 (kind_of e) k.1.1)
 
-length-map : {A B : Type 0} (f : A → B) (xs : List A) → length (map f xs) ≡ length xs
+pub length-map : {A B : Type 0} (f : A → B) (xs : List A) → length (map f xs) ≡ length xs
 length-map f [] = refl
 length-map f (x ∷ xs) = ap suc (length-map f xs)
 

@@ -11,3 +11,11 @@ mod GatherLemmas
 mod SourceLemmas
 mod JoinLemmas
 mod WhereLemmas
+mod ItemLemmas
+mod CoreLemmas
+mod PlacedNodes
+mod ExprLemmas
+mod ClauseLemmas
+mod RowsLemmas
+mod InductionLemmas
+mod StatementLemmas

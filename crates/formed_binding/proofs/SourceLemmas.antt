@@ -82,7 +82,7 @@ few-next n ninth place few is = by (n == 8) refl is
     by true e is = cc
     by false e is = let h : n ≤ 8 = few is in grind arith
 
-length-behind : {A : Type 0} (xs : List A) (x : A) → length (xs ++ x ∷ []) ≡ length xs + 1
+pub length-behind : {A : Type 0} (xs : List A) (x : A) → length (xs ++ x ∷ []) ≡ length xs + 1
 length-behind [] x = refl
 length-behind (y ∷ xs) x = let h = length-behind xs x in omega arith
 

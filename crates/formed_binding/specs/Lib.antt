@@ -4,3 +4,7 @@ pub mod Covered
 pub mod Parts
 pub mod Sources
 pub mod Filters
+pub mod Items
+pub mod Cores
+pub mod Placed
+pub mod Keeps

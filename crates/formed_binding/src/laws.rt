@@ -20,6 +20,9 @@ ghost use Rattle.sql_grammar.specs.declared.tree.select.Key.{Key as WrittenKey};
 ghost use Rattle.sql_grammar.specs.declared.tree.select.SetKind.{SetKind as WrittenKind};
 ghost use Rattle.sql_grammar.specs.declared.tree.statement.Column.{Column as WrittenColumn};
 ghost use Rattle.sql_grammar.specs.declared.tree.statement.CopyOption.{CopyOption as WrittenOption};
+ghost use Rattle.sql_grammar.specs.declared.tree.statement.Statement.{Statement as WrittenStatement};
+ghost use Rattle.bind_rules.specs.Bound.{bound_of};
+ghost use Rattle.sql_scope.specs.declared.scope.TableColumns.{TableColumns as Table};
 ghost use Rattle.sql_scope.specs.declared.call.Function.{Function as Aggregating};
 ghost use Rattle.sql_scope.specs.declared.chain.Chain.{Chain as BoundChain};
 ghost use Rattle.sql_scope.specs.declared.chain.Conditions.{Conditions as BoundConditions};
@@ -42,6 +45,12 @@ ghost use Rattle.sql_clauses.specs.Conditions as clauses;
 ghost use Rattle.sql_clauses.specs.Membership.{member};
 ghost use Rattle.sql_clauses.specs.Copies.{copy_table};
 ghost use Rattle.sql_clauses.specs.Grouping.{group_place, over_group};
+ghost use Rattle.sql_clauses.specs.declared.cores.Core.{Core as Clauses};
+ghost use Rattle.sql_clauses.specs.declared.rows.Unordered.TheVariants.{Core as CoreOf};
+ghost use Rattle.sql_clauses.specs.declared.cores.Selected.{Selected as Shown};
+ghost use Rattle.sql_clauses.specs.declared.items.Outputs.{Outputs as Items};
+ghost use Rattle.sql_clauses.specs.Cores.{unmixed, with_having, without_having};
+ghost use Rattle.sql_clauses.specs.Items.{no_outputs, source_item, star_item, value_item};
 ghost use Rattle.sql_clauses.specs.Joins.{join_on, join_plainly, on_width};
 ghost use Rattle.sql_clauses.specs.Rows.{combined, select_of};
 ghost use Rattle.sql_clauses.specs.Sources.{all_sources, query_source, table_source};
@@ -53,10 +62,13 @@ ghost use Rattle.well_formed.specs.From.{MayHave};
 ghost use Rattle.well_formed.specs.Given.{Schemas};
 ghost use Rattle.well_formed.specs.Statements.{IsSchema, IsWellFormed};
 ghost use Rattle.formed_binding.specs.Answers.{OfAnswer};
+ghost use Rattle.formed_binding.specs.Cores.{HasClauses};
 ghost use Rattle.formed_binding.specs.Covered.{Covered};
 ghost use Rattle.formed_binding.specs.Filters.{AreConjuncts, IsFilter, IsOperand};
+ghost use Rattle.formed_binding.specs.Items.{AreOutputs, AreShown};
 ghost use Rattle.formed_binding.specs.Named.{AreNamed, AreUnordered, IsSelected};
 ghost use Rattle.formed_binding.specs.Parts.{AreConditions, AreListed, IsChain, IsPart, IsView, calls_at, one_if};
+ghost use Rattle.formed_binding.specs.Placed.{StandApart};
 ghost use Rattle.formed_binding.specs.Sources.{AreAll, AreJoinedAs, AreSources};
 
 /// What CREATE TABLE, DROP TABLE and COPY are bound to is well-formed over the tables that are there.
@@ -171,4 +183,34 @@ pub fn operands_of_where_are_well_formed()
     ensures joined { (limit : ℕ) (schemas : Schemas) (columns : List Kind) (place : ℕ) (filter : WhereFilter) (operand : WhereOperand) → IsFilter limit schemas columns filter → IsOperand limit schemas columns operand
         → OfAnswer (IsFilter limit schemas columns) (clauses.joined place filter operand) }
     ensures ended { (limit : ℕ) (schemas : Schemas) (columns : List Kind) (place : ℕ) (filter : WhereFilter) → IsFilter limit schemas columns filter → OfAnswer (AreConjuncts limit schemas columns) (clauses.ended place filter) }
+{}
+
+/// An item behind those before it, and `*`: typed with the columns' types, and covered where the core is grouped.
+pub fn items_are_well_formed()
+    ensures none { (view : Scope) (grouped : Bool) (n : ℕ → ℕ) → AreOutputs view grouped n no_outputs }
+    ensures value { (view : Scope) (grouped g : Bool) (n m k : ℕ → ℕ) (alias : Option Place) (outputs : Items) (part : BoundPart) → AreOutputs view grouped m outputs → IsPart view g k part
+        → (g ≡ true → grouped ≡ true) → ((place : ℕ) → m place + k place ≤ n place) → OfAnswer (AreOutputs view grouped n) (value_item view grouped alias outputs part) }
+    ensures star { (view : Scope) (grouped : Bool) (n : ℕ → ℕ) (place : ℕ) → IsView view → (outputs : Items) → AreOutputs view grouped n outputs → OfAnswer (AreOutputs view grouped n) (star_item view grouped place outputs) }
+    ensures source { (view : Scope) (grouped : Bool) (n : ℕ → ℕ) (source : Place) (outputs : Items) → IsView view → AreOutputs view grouped n outputs → OfAnswer (AreOutputs view grouped n) (source_item view grouped source outputs) }
+{}
+
+/// HAVING behind the items of a grouped core: a condition that the keys cover. `count(DISTINCT x)` stands alone.
+pub fn having_is_well_formed()
+    ensures having { (view : Scope) (grouped g : Bool) (n m k : ℕ → ℕ) (place : ℕ) (outputs : Items) (part : BoundPart) → grouped ≡ true → AreOutputs view grouped m outputs → IsPart view g k part
+        → ((place : ℕ) → m place + k place ≤ n place) → OfAnswer (AreShown view grouped n) (with_having place outputs part) }
+    ensures none { (view : Scope) (grouped : Bool) (n : ℕ → ℕ) (outputs : Items) → AreOutputs view grouped n outputs → OfAnswer (AreShown view grouped n) (without_having outputs) }
+    ensures unmixed { (view : Scope) (grouped : Bool) (n : ℕ → ℕ) (selected : Shown) → AreShown view grouped n selected → OfAnswer (AreShown view grouped n) (unmixed selected) }
+    ensures alone { (view : Scope) (grouped : Bool) (n : ℕ → ℕ) (selected : Shown) → AreShown view grouped n selected → OfAnswer (λ shown. are_unmixed shown.outputs.calls ≡ true) (unmixed selected) }
+{}
+
+/// A core whose clauses are well-formed, and whose calls stand at different places, has well-formed rows with the types of
+/// its columns.
+pub fn cores_are_well_formed()
+    ensures { (view : Scope) (core : Clauses) → HasClauses view core → AreUnordered view.limit (columns_of view.tables) (CoreOf core) }
+{}
+
+/// What a statement over well-formed tables is bound to is well-formed, where no two calls of a core begin at one token.
+pub fn bound_statements_are_well_formed()
+    ensures { (statement : WrittenStatement) (script : List ℕ) (tables : List Table) (limit : ℕ) (bound : BoundStatement) → StandApart statement → AllByRecursion (λ table. IsSchema table.columns) tables
+        → bound_of statement script tables limit ≡ Ok bound → IsWellFormed limit (columns_of tables) bound }
 {}
