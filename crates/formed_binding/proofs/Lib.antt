@@ -13,7 +13,7 @@ mod JoinLemmas
 mod WhereLemmas
 mod ItemLemmas
 mod CoreLemmas
-mod PlacedNodes
+pub mod PlacedNodes
 mod ExprLemmas
 mod ClauseLemmas
 mod RowsLemmas

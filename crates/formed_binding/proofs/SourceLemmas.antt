@@ -35,11 +35,11 @@ use Rattle.well_formed.specs.From.{HasKinds, HasKindsIn, IsSourceNode, names_of}
 use Rattle.well_formed.specs.Given.{Schemas, kinds_of_columns, kinds_of_source, kinds_of_sources}
 use Rattle.well_formed.specs.Names.{AreApart, in_small_letters}
 use Rattle.well_formed.specs.Rows.{AnyConjunct, AnyInput, IsRowsNode, IsSelectNode, IsWellFormedInput, IsWellFormedSource}
-use Rattle.well_formed.specs.Statements.{IsSchema}
 use Rattle.well_formed.proofs.Parts.{from_made, input_made}
 use Rattle.formed_binding.specs.Answers.{OfAnswer}
 use Rattle.formed_binding.specs.Named.{IsSelected}
 use Rattle.formed_binding.specs.Sources.{AreAll, AreSources}
+use Rattle.formed_binding.specs.Tables.{AreProper}
 use Rattle.formed_binding.proofs.EachLemmas.{asked-for, on-answer, or-refused}
 use Rattle.formed_binding.proofs.TableLemmas.{all-behind, apart-behind, false-of, map-behind, neither, other-texts}
 
@@ -86,19 +86,19 @@ pub length-behind : {A : Type 0} (xs : List A) (x : A) → length (xs ++ x ∷ [
 length-behind [] x = refl
 length-behind (y ∷ xs) x = let h = length-behind xs x in omega arith
 
-schema-proper : (columns : List Column) → IsSchema columns → AllByRecursion IsProper (types_of columns)
-schema-proper columns schema = go columns schema.proper
+schema-proper : (columns : List Column) → AreProper columns → AllByRecursion IsProper (types_of columns)
+schema-proper columns schema = go columns schema
   where
     go : (columns : List Column) → AllByRecursion (λ (c : Column). IsProper c.kind) columns → AllByRecursion IsProper (types_of columns)
     go [] all = tt
     go (c ∷ columns) all = (all.0, go columns all.1)
 
-there : (tables : List TableColumns) (name : List ℕ) (columns : List Column) → AllByRecursion (λ (t : TableColumns). IsSchema t.columns) tables → columns_of tables name ≡ Some columns → IsSchema columns
+there : (tables : List TableColumns) (name : List ℕ) (columns : List Column) → AllByRecursion (λ (t : TableColumns). AreProper t.columns) tables → columns_of tables name ≡ Some columns → AreProper columns
 there [] name columns all is = cc
 there (t ∷ tables) name columns all is = by (bytes_eq t.name name) (λ later. there tables name columns all.1 later) is
   where
-    by : (b : Bool) → (columns_of tables name ≡ Some columns → IsSchema columns) → cond b (Some t.columns) (columns_of tables name) ≡ Some columns → IsSchema columns
-    by true later is = let e : t.columns ≡ columns = cc in subst IsSchema e all.0
+    by : (b : Bool) → (columns_of tables name ≡ Some columns → AreProper columns) → cond b (Some t.columns) (columns_of tables name) ≡ Some columns → AreProper columns
+    by true later is = let e : t.columns ≡ columns = cc in subst AreProper e all.0
     by false later is = later is
 
 -- ---- one source more
@@ -134,7 +134,7 @@ module _ (view : View) where
         plain = all-behind (λ (s : BoundSource). (out-BoundSource s).on ≡ []) sources.list source are.plain (ap (λ (s : BoundSource-F BoundRows Conjunct SourceRows BoundCore BoundSelect BoundSource). s.on) is);
       })
 
-  pub table-next : (join : JoinKind) (name : Span) (alias : Option Span) (sources : Sources) (joins : List JoinKind) → AllByRecursion (λ (t : TableColumns). IsSchema t.columns) view.tables → AreSources view sources joins
+  pub table-next : (join : JoinKind) (name : Span) (alias : Option Span) (sources : Sources) (joins : List JoinKind) → AllByRecursion (λ (t : TableColumns). AreProper t.columns) view.tables → AreSources view sources joins
       → OfAnswer (λ t. AreSources view t (joins ++ join ∷ [])) (table_source view join name alias sources)
   table-next join name alias sources joins tables are =
       let table = folded_at view.script name in

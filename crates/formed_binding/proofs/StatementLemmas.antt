@@ -7,11 +7,12 @@ use Rattle.sql_grammar.specs.declared.tree.statement.Statement.TheVariants as st
 use Rattle.sql_scope.specs.declared.scope.TableColumns.{TableColumns}
 use Rattle.sql_scope.specs.Scopes.{View, columns_of}
 use Rattle.bind_rules.specs.Bound.{bound_of, bound_over, explained, select_binding, selected_rows, view_of}
-use Rattle.well_formed.specs.Statements.{IsSchema, IsWellFormed}
+use Rattle.well_formed.specs.Statements.{IsWellFormed}
 use Rattle.formed_binding.specs.Answers.{OfAnswer}
 use Rattle.formed_binding.specs.Keeps.{HasSchemas}
 use Rattle.formed_binding.specs.Named.{IsSelected}
 use Rattle.formed_binding.specs.Placed.{StandApart}
+use Rattle.formed_binding.specs.Tables.{AreProper}
 use Rattle.formed_binding.proofs.CopyLemmas.{copied-formed}
 use Rattle.formed_binding.proofs.EachLemmas.{of-answer, on-answer, whenever}
 use Rattle.formed_binding.proofs.InductionLemmas.{every-select}
@@ -30,7 +31,7 @@ module _ (view : View) (schemas : HasSchemas view) where
   every-statement (statement.Select select) apart =
       on-answer (IsSelected view.limit (columns_of view.tables)) Formed ((select_binding select).select view) selected_rows (every-select select apart view schemas) (λ bound h. h.formed)
 
-pub bound-formed : (written : Statement) (script : List ℕ) (tables : List TableColumns) (limit : ℕ) (bound : Bound) → StandApart written → AllByRecursion (λ (table : TableColumns). IsSchema table.columns) tables
+pub bound-formed : (written : Statement) (script : List ℕ) (tables : List TableColumns) (limit : ℕ) (bound : Bound) → StandApart written → AllByRecursion (λ (table : TableColumns). AreProper table.columns) tables
     → bound_of written script tables limit ≡ Ok bound → IsWellFormed limit (columns_of tables) bound
 bound-formed written script tables limit bound apart schemas is =
     of-answer (IsWellFormed limit (columns_of tables)) (bound_over (view_of script tables limit) written) bound (every-statement (view_of script tables limit) schemas written apart) is

@@ -12,7 +12,6 @@ use Rattle.sql_clauses.specs.declared.joins.Joined.{Joined}
 use Rattle.sql_clauses.specs.declared.sources.Sources.{Sources}
 use Rattle.bind_rules.specs.Bindings.{ExprBinding, ArgumentBinding, LinkBinding, OperandBinding, ConditionBinding, SelectBinding, RowsBinding, SetBinding, ItemBinding, SourceBinding, JoinBinding}
 use Rattle.well_formed.specs.From.{IsLater}
-use Rattle.well_formed.specs.Statements.{IsSchema}
 use Rattle.formed_binding.specs.Answers.{OfAnswer}
 use Rattle.formed_binding.specs.Filters.{IsFilter, IsOperand}
 use Rattle.formed_binding.specs.Items.{AreOutputs}
@@ -20,10 +19,11 @@ use Rattle.formed_binding.specs.Named.{AreUnordered, IsSelected}
 use Rattle.formed_binding.specs.Parts.{IsPart, IsView}
 use Rattle.formed_binding.specs.Placed.{Placed, count}
 use Rattle.formed_binding.specs.Sources.{AreJoinedAs, AreSources}
+use Rattle.formed_binding.specs.Tables.{AreProper}
 
--- the tables have columns that a table may have
+-- the columns of the tables have proper types
 abbrev pub HasSchemas : View → Type 0
-HasSchemas view = AllByRecursion (λ table. IsSchema table.columns) view.tables
+HasSchemas view = AllByRecursion (λ table. AreProper table.columns) view.tables
 
 pub record OfExpr (binding : ExprBinding) (calls : List ℕ) : Type 0 where
   pub part : (view : View) → IsView view → OfAnswer (IsPart view (binding.aggregates view.script) (count calls)) (binding.part view)

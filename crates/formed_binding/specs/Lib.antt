@@ -1,6 +1,7 @@
 pub mod Answers
 pub mod Named
 pub mod Covered
+pub mod Tables
 pub mod Parts
 pub mod Sources
 pub mod Filters

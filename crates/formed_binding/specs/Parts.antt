@@ -11,12 +11,12 @@ use Rattle.sql_scope.specs.declared.part.Part.{Part}
 use Rattle.sql_scope.specs.Scopes.{View, kinds}
 use Rattle.typed_scope.specs.Typed.{AreConditionsOver, IsChainOver, IsPartOver, IsTypedOver, seen_of}
 use Rattle.well_formed.specs.Aggregates.{IsAggregate}
-use Rattle.well_formed.specs.Statements.{IsSchema}
 use Rattle.formed_binding.specs.Covered.{Covered}
+use Rattle.formed_binding.specs.Tables.{AreProper}
 
--- the tables have columns that a table may have, and those that are seen have proper types
+-- the columns of the tables and those that are seen have proper types
 pub record IsView (view : View) : Type 0 where
-  pub tables : AllByRecursion (λ table. IsSchema table.columns) view.tables
+  pub tables : AllByRecursion (λ table. AreProper table.columns) view.tables
   pub proper : AllByRecursion IsProper (kinds view)
 
 -- an aggregate that stands where one may, and where the tree has one

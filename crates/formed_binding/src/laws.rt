@@ -60,7 +60,7 @@ ghost use Rattle.well_formed.specs.Aggregates.{AreDifferent, IsAggregate, Stands
 ghost use Rattle.well_formed.specs.Exprs.{IsCondition, IsExpr};
 ghost use Rattle.well_formed.specs.From.{MayHave};
 ghost use Rattle.well_formed.specs.Given.{Schemas};
-ghost use Rattle.well_formed.specs.Statements.{IsSchema, IsWellFormed};
+ghost use Rattle.well_formed.specs.Statements.{IsWellFormed};
 ghost use Rattle.formed_binding.specs.Answers.{OfAnswer};
 ghost use Rattle.formed_binding.specs.Cores.{HasClauses};
 ghost use Rattle.formed_binding.specs.Covered.{Covered};
@@ -70,6 +70,7 @@ ghost use Rattle.formed_binding.specs.Named.{AreNamed, AreUnordered, IsSelected}
 ghost use Rattle.formed_binding.specs.Parts.{AreConditions, AreListed, IsChain, IsPart, IsView, calls_at, one_if};
 ghost use Rattle.formed_binding.specs.Placed.{StandApart};
 ghost use Rattle.formed_binding.specs.Sources.{AreAll, AreJoinedAs, AreSources};
+ghost use Rattle.formed_binding.specs.Tables.{AreProper};
 
 /// What CREATE TABLE, DROP TABLE and COPY are bound to is well-formed over the tables that are there.
 pub fn bound_tables_are_well_formed()
@@ -158,7 +159,7 @@ pub fn chains_and_conditions_give_parts()
 
 /// A table or a subquery behind the sources before it.
 pub fn sources_are_well_formed()
-    ensures table { (view : Scope) (join : Joining) (name : Place) (alias : Option Place) (sources : Sources) (joins : List Joining) → AllByRecursion (λ table. IsSchema table.columns) view.tables
+    ensures table { (view : Scope) (join : Joining) (name : Place) (alias : Option Place) (sources : Sources) (joins : List Joining) → AllByRecursion (λ table. AreProper table.columns) view.tables
         → AreSources view sources joins → OfAnswer (λ all. AreSources view all (joins ++ join ∷ [])) (table_source view join name alias sources) }
     ensures query { (view : Scope) (join : Joining) (place : ℕ) (alias : Place) (sources : Sources) (joins : List Joining) (query : Select) → IsSelected view.limit (columns_of view.tables) query
         → AreSources view sources joins → OfAnswer (λ all. AreSources view all (joins ++ join ∷ [])) (query_source view join place alias sources query) }
@@ -211,6 +212,6 @@ pub fn cores_are_well_formed()
 
 /// What a statement over well-formed tables is bound to is well-formed, where no two calls of a core begin at one token.
 pub fn bound_statements_are_well_formed()
-    ensures { (statement : WrittenStatement) (script : List ℕ) (tables : List Table) (limit : ℕ) (bound : BoundStatement) → StandApart statement → AllByRecursion (λ table. IsSchema table.columns) tables
+    ensures { (statement : WrittenStatement) (script : List ℕ) (tables : List Table) (limit : ℕ) (bound : BoundStatement) → StandApart statement → AllByRecursion (λ table. AreProper table.columns) tables
         → bound_of statement script tables limit ≡ Ok bound → IsWellFormed limit (columns_of tables) bound }
 {}

@@ -1,0 +1,9 @@
+mod Fits
+mod Keeping
+mod NodeLemmas
+mod ExpressionRules
+mod SelectRules
+mod TokenLemmas
+mod StatementRules
+mod ScriptLemmas
+mod BoundLemmas
