@@ -1,6 +1,6 @@
 -- What a scan answers, behind its last row or at a fault.
-use Rattle.std.proofs.Common.{◌≡◌, ℕ, ◌+◌, Bool, true, false, true≢false, List, [], length, sym, ap, subst, ◌∙◌}
-use Rattle.std.specs.Prelude.{Option, Some, None, Result, Ok, Err, Vec, Contains, is_some, map, IfErr}
+use Rattle.std.proofs.Common.{◌≡◌, ℕ, ◌+◌, Bool, true, false, true≢false, cond, List, [], ◌∷◌, length, sym, ap, subst, ◌∙◌}
+use Rattle.std.specs.Prelude.{Option, Some, None, Result, Ok, Err, Vec, Contains, is_some, map, nat_lt, IfErr, IfOk}
 use Rattle.ooc_types.specs.declared.schema.Column.{Column}
 use Rattle.sql_expr.specs.declared.fault.ValueFault.{ValueFault}
 use Rattle.bound_tree.specs.declared.select.Cut.{Cut}
@@ -11,10 +11,10 @@ use Rattle.sql_meaning.specs.Found.{Found, Row, clean, if_clean}
 use Rattle.sql_meaning.specs.Judged.{Condition, RowValue, kept}
 use Rattle.sql_meaning.specs.Select.{projected}
 use Rattle.sql_meaning.specs.Statements.{condition_of, row_value_of}
-use Rattle.script_says.specs.Selecting.{Shown, most_result}
+use Rattle.script_says.specs.Selecting.{Shown, Shows, TooLarge, block_of, lines_length, most_result, shown_of}
 use Rattle.table_scan.specs.declared.fault.SelectFault.{SelectFault}
 use Rattle.table_scan.specs.declared.fault.SelectFault.TheVariants as fault
-use Rattle.table_scan.specs.Outcomes.{Ends, EndsPart, EndsScan, HasCause, IsNoted, IsShown, ShowsCut}
+use Rattle.table_scan.specs.Outcomes.{Ends, EndsPart, EndsScan, HasCause, IsBlockOf, IsNoted, IsShown, ShowsCut}
 use Rattle.table_scan.specs.Scan.{conditions_among}
 use Rattle.table_scan.specs.Sets.{ShowsSets, scanned, shown_found}
 use Rattle.table_scan.specs.Sink.{Sink, take_all}
@@ -90,3 +90,19 @@ pub core-shown : (A : Type 0) (core : BoundCore) (columns : List Column) (cut : 
 core-shown A core columns cut conditions items rows result conditions_are items_are shows =
     subst (λ (is : List RowValue). IsShown (shown_found cut columns (scanned (map condition_of (conditions_among (out-BoundCore core).conjuncts)) is rows)) result) items_are
     (subst (λ (cs : List Condition). IsShown (shown_found cut columns (scanned cs items rows)) result) conditions_are shows)
+
+-- ---- what is shown is a block
+
+pub shown-block : (A : Type 0) (columns : List Column) (cut : Option Cut) (counted : List Row) (found : Found Row) (faults : List ValueFault) (result : Result (Vec ℕ A) SelectFault)
+    → IsShown (shown_of cut columns counted found faults) result → IfOk result (λ text. IsBlockOf columns text.items)
+shown-block A columns cut counted found faults (Err why) shows = tt
+shown-block A columns cut counted found (value ∷ faults) (Ok text) shows = absurd shows
+shown-block A columns cut counted found [] (Ok text) shows = sized (nat_lt most_result (lines_length counted)) shows
+  where
+    ordered : (c : Option Cut) → IsShown {A = A} (Shows (block_of c columns found.rows)) (Ok text) → IsBlockOf columns text.items
+    ordered None printed = (printed.0, printed.2)
+    ordered (Some cut) printed = (found.rows, printed)
+
+    sized : (b : Bool) → IsShown {A = A} (cond b TooLarge (Shows (block_of cut columns found.rows))) (Ok text) → IsBlockOf columns text.items
+    sized true printed = absurd printed
+    sized false printed = ordered cut printed

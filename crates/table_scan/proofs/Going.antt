@@ -13,7 +13,7 @@ use Rattle.table_scan.specs.declared.fault.SelectFault.TheVariants as fault
 use Rattle.table_scan.specs.declared.reading.Reading.{Reading}
 use Rattle.table_scan.specs.Outcomes.{IsNoted}
 use Rattle.table_scan.specs.Sink.{Sink, conditions_in, items_in, take_all, take_one}
-use Rattle.table_scan.specs.Steps.{IsStep}
+use Rattle.table_scan.specs.Steps.{IsStep, TakesSome}
 use Rattle.table_scan.specs.TableRows.{rows_of_set, rows_of_sets}
 
 -- ---- lists of faults
@@ -103,6 +103,21 @@ gone-clean reading all ahead start now gone none = ap (λ (l : List Row). (kept 
 pub gone-noted : (reading : Reading) (all ahead : List Row) (start now : Sink) (why : SelectFault) → HasGone reading all ahead start now → IsNoted (conditions_in reading) ahead why → IsNoted (conditions_in reading) all why
 gone-noted reading all ahead start now why gone noted =
     subst (λ (l : List Row). IsNoted (conditions_in reading) l why) (sym gone.split) (noted-behind (conditions_in reading) gone.done ahead why noted)
+
+-- ---- some rows, whichever they are
+
+pub takes-none : (reading : Reading) (old new : Sink) → new ≡ old → TakesSome reading old new
+takes-none reading old new same = record { rows = []; taken = same; clean = refl }
+
+pub takes-one : (reading : Reading) (row : Row) (old new : Sink) → new ≡ take_one (conditions_in reading) (items_in reading) row old → (kept (conditions_in reading) (row ∷ [])).faults ≡ [] → TakesSome reading old new
+takes-one reading row old new taken clean = record { rows = row ∷ []; taken = taken; clean = clean }
+
+pub takes-then : (reading : Reading) (old mid new : Sink) → TakesSome reading old mid → TakesSome reading mid new → TakesSome reading old new
+takes-then reading old mid new first second = record {
+  rows = first.rows ++ second.rows;
+  taken = second.taken ∙ ap (take_all (conditions_in reading) (items_in reading) second.rows) first.taken ∙ sym (take-append (conditions_in reading) (items_in reading) first.rows second.rows old);
+  clean = none-both (conditions_in reading) first.rows second.rows first.clean second.clean;
+}
 
 -- ---- the rows of the sets from one on
 

@@ -7,3 +7,4 @@ pub mod Parting
 pub mod WellFormed
 pub mod Resting
 pub mod Ending
+pub mod Ordering

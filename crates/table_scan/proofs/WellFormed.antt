@@ -1,7 +1,8 @@
 -- A well-formed SELECT over one table can be scanned.
 use Rattle.std.proofs.Common.{◌≡◌, ℕ, true, true≢false, List, [], ◌∷◌, ◌++◌, refl, sym, ap, subst, ◌∙◌, append-nil}
-use Rattle.std.specs.Prelude.{not, ◌&&◌, Option, Some, None}
+use Rattle.std.specs.Prelude.{not, ◌&&◌, map, Option, Some, None}
 use Rattle.std.specs.List.{AllByRecursion, list_all}
+use Rattle.std.specs.Option.{option_map}
 use Rattle.ooc_types.specs.declared.schema.SqlType.{SqlType}
 use Rattle.sql_expr.specs.declared.tree.Expr.{Expr}
 use Rattle.sql_expr.specs.Typing.{IsTyped}
@@ -12,16 +13,16 @@ use Rattle.bound_tree.specs.declared.select.BoundSelect.{BoundSelect}
 use Rattle.bound_tree.specs.declared.select.BoundSource.{BoundSource}
 use Rattle.bound_tree.specs.declared.select.Conjunct.{Conjunct}
 use Rattle.bound_tree.specs.declared.select.SourceRows.{SourceRows}
-use Rattle.bound_tree.specs.declared.select.BoundRows.TheOpen.{BoundRows-F, BoundSelect-F, Conjunct-F}
-use Rattle.bound_tree.specs.declared.select.BoundRows.TheFolds.{every_here-BoundCore, every_held-BoundRows, every_held-BoundSelect, map-BoundRows}
-use Rattle.bound_tree.specs.declared.select.BoundRows.TheViews.{out-BoundCore, out-BoundSelect, out-Conjunct}
+use Rattle.bound_tree.specs.declared.select.BoundRows.TheOpen.{BoundCore-F, BoundRows-F, BoundSelect-F, Conjunct-F, SourceRows-F}
+use Rattle.bound_tree.specs.declared.select.BoundRows.TheFolds.{every_here-BoundCore, every_here-BoundSource, every_held-BoundCore, every_held-BoundRows, every_held-BoundSelect, map-BoundRows}
+use Rattle.bound_tree.specs.declared.select.BoundRows.TheViews.{out-BoundCore, out-BoundSelect, out-BoundSource, out-Conjunct, out-SourceRows}
 use Rattle.well_formed.specs.Cores.{IsConjunct, IsConjunctIn, IsCoreNode}
 use Rattle.well_formed.specs.Exprs.{IsExpr}
-use Rattle.well_formed.specs.From.{IsSourceNode}
-use Rattle.well_formed.specs.Given.{Schemas, kinds_below_items}
+use Rattle.well_formed.specs.From.{HasKindsIn, IsSourceNode}
+use Rattle.well_formed.specs.Given.{Schemas, kinds_below_items, kinds_of_columns}
 use Rattle.well_formed.specs.Given.{kinds_of_sources as kinds_of_all}
 use Rattle.well_formed.specs.Rows.{AnyConjunct, AnyInput, AreWellFormedRows, IsRowsNode, IsSelectNode, IsWellFormedConjunct, IsWellFormedCore, IsWellFormedInput, IsWellFormedSelect, IsWellFormedSource}
-use Rattle.table_scan.specs.Scan.{condition_in_node, conditions_among, conditions_of_core, core_in, core_of_select, is_condition, is_one_table, is_scan, is_scan_core, is_scan_of, is_ungrouped, items_of_core, kinds_of_core, kinds_of_sources}
+use Rattle.table_scan.specs.Scan.{condition_in_node, conditions_among, conditions_of_core, core_in, core_of_select, has_none, is_condition, is_first, is_one_table, is_scan, is_scan_core, is_scan_of, is_table_in, is_ungrouped, items_of_core, kinds_of_core, kinds_of_sources, scan_kinds, scan_table, table_in, table_of_core, table_of_sources}
 use Rattle.table_scan.specs.Typed.{IsConditionOver, IsTypedCore, IsTypedScan}
 use Rattle.table_scan.proofs.Scanning.{both-true}
 
@@ -106,3 +107,36 @@ module _ (limit : ℕ) where
 
     pub scans-typed : (select : BoundSelect) → is_scan select ≡ true → IsWellFormedSelect limit schemas select → IsTypedScan select
     scans-typed select scan whole = found select (core_of_select select) refl scan whole
+
+    -- ---- its table
+
+    -- the table is there, and has columns of these types
+    abbrev IsOfTable : List ℕ → List SqlType → Type 0
+    IsOfTable name kinds = option_map kinds_of_columns (schemas name) ≡ Some kinds
+
+    rows-kinds : (kinds : List SqlType) (y : SourceRows-F BoundRows Conjunct SourceRows BoundCore BoundSelect BoundSource) → is_table_in y ≡ true → HasKindsIn schemas kinds y → IsOfTable (table_in y) kinds
+    rows-kinds kinds (SourceRows-F.Table name) e has = has
+    rows-kinds kinds (SourceRows-F.Query select) e has = absurd (true≢false (sym e))
+
+    sources-kinds : (os : List O) → is_one_table (map (λ (o : O). o.0) os) ≡ true → IsOfTable (table_of_sources (map (λ (o : O). o.0) os)) (kinds_of_sources (map (λ (o : O). o.0) os))
+    sources-kinds [] e = absurd (true≢false (sym e))
+    sources-kinds (o ∷ []) e =
+        let s = out-BoundSource o.0 in
+        let table = both-true (is_table_in (out-SourceRows s.rows)) (is_first s.join && has_none s.on) e in
+        rows-kinds s.kinds (out-SourceRows s.rows) table.0 (every_here-BoundSource IsRowsNode AnyConjunct AnyInput (IsCoreNode limit) IsSelectNode (IsSourceNode schemas) o.0 o.1)
+    sources-kinds (o ∷ second ∷ more) e = absurd (true≢false (sym e))
+
+    core-kinds : (core : BoundCore) → is_scan_core core ≡ true → IsWellFormedCore limit schemas core → IsOfTable (table_of_sources (out-BoundCore core).sources) (kinds_of_sources (out-BoundCore core).sources)
+    core-kinds core scan whole =
+        let c = out-BoundCore core in
+        let held = every_held-BoundCore IsRowsNode AnyConjunct AnyInput (IsCoreNode limit) IsSelectNode (IsSourceNode schemas) core whole in
+        let same = ap (λ (k : BoundCore-F BoundRows Conjunct SourceRows BoundCore BoundSelect BoundSource). k.sources) held.1 in
+        let one = both-true (is_one_table c.sources) (list_all is_condition c.conjuncts && (is_ungrouped c.grouping && not c.distinct)) scan in
+        subst (λ (ss : List BoundSource). IsOfTable (table_of_sources ss) (kinds_of_sources ss)) same (sources-kinds held.0.sources (ap is_one_table same ∙ one.0))
+
+    found-kinds : (select : BoundSelect) (o : Option BoundCore) → core_of_select select ≡ o → is_scan_of o ≡ true → IsWellFormedSelect limit schemas select → IsOfTable (table_of_core o) (kinds_of_core o)
+    found-kinds select None is scan whole = absurd (true≢false (sym scan))
+    found-kinds select (Some core) is scan whole = core-kinds core scan (select-core select core is whole)
+
+    pub scans-kinds : (select : BoundSelect) → is_scan select ≡ true → IsWellFormedSelect limit schemas select → option_map kinds_of_columns (schemas (scan_table select)) ≡ Some (scan_kinds select)
+    scans-kinds select scan whole = found-kinds select (core_of_select select) refl scan whole

@@ -5,3 +5,4 @@ pub mod Outcomes
 pub mod TableRows
 pub mod Steps
 pub mod Sets
+pub mod Items

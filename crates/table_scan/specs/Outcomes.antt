@@ -88,3 +88,7 @@ IsFault value result = result ≡ Err (fault.Value value)
 abbrev pub EndsScan : {A : Type 0} → List Column → Option Cut → Option ValueFault → Sink → Result (Vec ℕ A) SelectFault → Type 0
 EndsScan columns cut None sink result = EndsPart columns cut sink result
 EndsScan columns cut (Some value) sink result = IsFault value result
+
+-- the line of these columns, the lines of some rows, and an empty line
+abbrev pub IsBlockOf : List Column → List ℕ → Type 0
+IsBlockOf columns text = (rows : List Row) × (text ≡ block_text columns rows)

@@ -3,7 +3,7 @@ use Rattle.std.specs.Prelude.{◌≡◌, List, [], ◌∷◌}
 use Rattle.sql_meaning.specs.Found.{Row}
 use Rattle.sql_meaning.specs.Judged.{kept}
 use Rattle.table_scan.specs.declared.reading.Reading.{Reading}
-use Rattle.table_scan.specs.Sink.{Sink, conditions_in, items_in, take_one}
+use Rattle.table_scan.specs.Sink.{Sink, conditions_in, items_in, take_all, take_one}
 
 -- the first of the rows that were ahead was taken, and the others are ahead
 pub record IsStep (reading : Reading) (before after : List Row) (old new : Sink) : Type 0 where
@@ -16,3 +16,9 @@ pub record IsStep (reading : Reading) (before after : List Row) (old new : Sink)
 pub record IsLast (before : List Row) (old new : Sink) : Type 0 where
   pub none : before ≡ []
   pub same : new ≡ old
+
+-- some rows were taken, whichever they are, and no condition faults on one of them
+pub record TakesSome (reading : Reading) (old new : Sink) : Type 0 where
+  pub rows : List Row
+  pub taken : new ≡ take_all (conditions_in reading) (items_in reading) rows old
+  pub clean : (kept (conditions_in reading) rows).faults ≡ []

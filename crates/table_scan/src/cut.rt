@@ -5,9 +5,9 @@ ghost use Rattle.table_scan.specs.Outcomes.{ShowsCut, ShowsPart};
 
 use crate::fault::SelectFault;
 use crate::lines::{MOST_RESULT, end_text, is_over, print_lines};
+use crate::order::sort_rows;
 use bound_tree::Cut;
 use ooc_types::{Row, Schema};
-use plain_rows::order_rows;
 use result_print::print_header;
 use std::alloc::Global;
 
@@ -54,16 +54,18 @@ fn first_rows(limit: Option<u128>, rows: &[Row]) -> &[Row]
     }
 }
 
-/// The rows in order, without the first of them, and of the rest as many as there may be.
+/// The rows in order, without the first of them, and of the rest as many as there may be. The rows are put in order where
+/// they lie.
 pub(crate) fn print_cut(
     alloc: Global,
     columns: &Schema,
     cut: &Cut,
-    rows: &[Row],
+    rows: Vec<Row>,
 ) -> Result<Vec<u8>, SelectFault>
-    ensures { ShowsCut columns.now cut.now rows.now result }
+    ensures { ShowsCut columns.now cut.now rows.items result }
 {
-    let ordered = order_rows(alloc, cut.keys.as_slice(), rows)?;
+    let mut ordered = rows;
+    sort_rows(cut.keys.as_slice(), &mut ordered);
     let all = ordered.as_slice();
     let offset = at_most(cut.offset.unwrap_or(0), all.len());
     let shown = first_rows(cut.limit, &all[offset..]);

@@ -6,7 +6,9 @@
 
 mod cut;
 mod fault;
+mod items;
 mod lines;
+mod order;
 mod reading;
 mod rows;
 mod scan;

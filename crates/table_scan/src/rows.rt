@@ -6,7 +6,7 @@ ghost use Rattle.row_cursors.specs.RowCursors.{rest_rows};
 ghost use Rattle.sql_meaning.specs.Judged.{kept as kept_by};
 ghost use Rattle.table_scan.specs.Outcomes.{HasCause, IsNoted};
 ghost use Rattle.table_scan.specs.Sink.{conditions_in, items_in, sink_of, take_all, take_one};
-ghost use Rattle.table_scan.specs.Steps.{IsStep, IsLast};
+ghost use Rattle.table_scan.specs.Steps.{IsStep, IsLast, TakesSome};
 ghost use Rattle.table_scan.specs.TableRows.{IsReadable, rows_ahead, rows_of_set, rows_of_sets};
 ghost use Rattle.table_scan.specs.Typed.{IsReading};
 
@@ -36,6 +36,7 @@ fn take_next<P: Pages>(
     requires kinds { set.now.kinds ≡ reading.now.kinds.now }
     requires reading { IsReading reading.now }
     ensures step { IsTrue P.terms.told → IfOk result (λ more. more ≡ true → IsStep reading.now (rows_ahead P.terms set.now cursor.old) (rows_ahead P.terms set.now cursor.new) (sink_of into.old) (sink_of into.new)) }
+    ensures some { IfOk result (λ more. TakesSome reading.now (sink_of into.old) (sink_of into.new)) }
     ensures less { IfOk result (λ more. more ≡ true → length (rest_rows P.terms set.now cursor.new) < length (rest_rows P.terms set.now cursor.old)) }
     ensures last { IsTrue P.terms.told → IfOk result (λ more. more ≡ false → IsLast (rows_ahead P.terms set.now cursor.old) (sink_of into.old) (sink_of into.new)) }
     ensures noted { IsTrue P.terms.told → IfErr result (IsNoted (conditions_in reading.now) (rows_ahead P.terms set.now cursor.old)) }
@@ -68,6 +69,7 @@ fn take_set<P: Pages>(
     requires kinds { set.now.kinds ≡ reading.now.kinds.now }
     requires reading { IsReading reading.now }
     ensures taken { IsTrue P.terms.told → OnOk result (sink_of into.new ≡ take_all (conditions_in reading.now) (items_in reading.now) (rows_of_set P.terms set.now) (sink_of into.old)) }
+    ensures some { OnOk result (TakesSome reading.now (sink_of into.old) (sink_of into.new)) }
     ensures clean { IsTrue P.terms.told → OnOk result ((kept_by (conditions_in reading.now) (rows_of_set P.terms set.now)).faults ≡ []) }
     ensures noted { IsTrue P.terms.told → IfErr result (IsNoted (conditions_in reading.now) (rows_of_set P.terms set.now)) }
     ensures cause { IfErr result (HasCause P.terms.told (P.view pages.old).faults (P.view pages.new).faults) }
@@ -98,6 +100,7 @@ pub(crate) fn take_sets<P: Pages>(
     requires room { (P.view pages.old).held + 5 ≤ (P.view pages.old).grant }
     requires reading { IsReading reading.now }
     ensures taken { IsTrue P.terms.told → OnOk result (sink_of into.new ≡ take_all (conditions_in reading.now) (items_in reading.now) (rows_of_sets P.terms sets.now) (sink_of into.old)) }
+    ensures some { OnOk result (TakesSome reading.now (sink_of into.old) (sink_of into.new)) }
     ensures clean { IsTrue P.terms.told → OnOk result ((kept_by (conditions_in reading.now) (rows_of_sets P.terms sets.now)).faults ≡ []) }
     ensures noted { IsTrue P.terms.told → IfErr result (IsNoted (conditions_in reading.now) (rows_of_sets P.terms sets.now)) }
     ensures cause { IfErr result (HasCause P.terms.told (P.view pages.old).faults (P.view pages.new).faults) }

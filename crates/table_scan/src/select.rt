@@ -1,13 +1,14 @@
 //! A SELECT over one table.
-ghost use Rattle.std.specs.Prelude.{◌≡◌, ◌+◌, ◌≤◌, ℕ, true, IsTrue, All, IfOk, IfErr, OnOk};
+ghost use Rattle.std.specs.Prelude.{◌≡◌, ◌+◌, ◌≤◌, ℕ, true, IsTrue, All, IfOk, IfErr, Some};
+ghost use Rattle.std.specs.Option.{option_map};
 ghost use Rattle.page_body.specs.Keeps.{Kept};
 ghost use Rattle.bound_tree.specs.declared.select.BoundSelect.{BoundSelect as Select};
 ghost use Rattle.bound_tree.specs.declared.select.BoundRows.TheViews.{out-BoundCore, out-BoundSelect};
-ghost use Rattle.well_formed.specs.Given.{Schemas};
+ghost use Rattle.well_formed.specs.Given.{Schemas, kinds_of_columns};
 ghost use Rattle.well_formed.specs.Rows.{IsWellFormedSelect};
 ghost use Rattle.sql_meaning.specs.Statements.{Tables};
 ghost use Rattle.script_says.specs.Selecting.{shown};
-ghost use Rattle.table_scan.specs.Outcomes.{HasCause, IsShown};
+ghost use Rattle.table_scan.specs.Outcomes.{HasCause, IsBlockOf, IsShown};
 ghost use Rattle.table_scan.specs.Scan as spec;
 ghost use Rattle.table_scan.specs.Scan.{is_scan_core, kinds_of_sources, scan_kinds, scan_table};
 ghost use Rattle.table_scan.specs.Sets.{ShowsSets};
@@ -39,6 +40,7 @@ fn select_core<P: Pages>(
     requires sets { All (IsReadable P.terms (P.view pages.old) (kinds_of_sources (out-BoundCore core.now).sources)) sets.now }
     requires room { (P.view pages.old).held + 5 ≤ (P.view pages.old).grant }
     ensures shows { IsTrue P.terms.told → ShowsSets core.now columns.now cut.now (rows_of_sets P.terms sets.now) result }
+    ensures block { IfOk result (λ text. IsBlockOf columns.now text.items) }
     ensures cause { IfErr result (HasCause P.terms.told (P.view pages.old).faults (P.view pages.new).faults) }
     ensures kept { Kept (P.view pages.old) (P.view pages.new) }
 {
@@ -71,6 +73,7 @@ pub fn select_table<P: Pages>(
     requires sets { All (IsReadable P.terms (P.view pages.old) (scan_kinds select.now)) sets.now }
     requires room { (P.view pages.old).held + 5 ≤ (P.view pages.old).grant }
     ensures shows { IsTrue P.terms.told → (tables : Tables) → tables (scan_table select.now) ≡ rows_of_sets P.terms sets.now → IsShown (shown tables select.now) result }
+    ensures block { IfOk result (λ text. IsBlockOf (out-BoundSelect select.now).columns text.items) }
     ensures cause { IfErr result (HasCause P.terms.told (P.view pages.old).faults (P.view pages.new).faults) }
     ensures kept { Kept (P.view pages.old) (P.view pages.new) }
 {
@@ -80,8 +83,10 @@ pub fn select_table<P: Pages>(
     }
 }
 
-/// A well-formed SELECT over one table can be scanned: its conditions and items are typed over the table's columns. The
-/// function does nothing; its contract says the law.
+/// A well-formed SELECT over one table can be scanned: its table is there, with columns of the types that it reads, and its
+/// conditions and items are typed over them. The function does nothing; its contract says the law.
 pub fn well_formed_selects_can_be_scanned()
-    ensures { (limit : ℕ) (schemas : Schemas) (select : Select) → spec.is_scan select ≡ true → IsWellFormedSelect limit schemas select → IsTypedScan select }
+    ensures typed { (limit : ℕ) (schemas : Schemas) (select : Select) → spec.is_scan select ≡ true → IsWellFormedSelect limit schemas select → IsTypedScan select }
+    ensures kinds { (limit : ℕ) (schemas : Schemas) (select : Select) → spec.is_scan select ≡ true → IsWellFormedSelect limit schemas select
+        → option_map kinds_of_columns (schemas (scan_table select)) ≡ Some (scan_kinds select) }
 {}

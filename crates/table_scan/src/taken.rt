@@ -7,10 +7,11 @@ ghost use Rattle.sql_meaning.specs.Groups.{values};
 ghost use Rattle.sql_meaning.specs.Judged.{kept};
 ghost use Rattle.plain_rows.specs.Cores.{CanSelect};
 ghost use Rattle.table_scan.specs.Outcomes.{EndsPart, EndsScan, IsNoted, value_fault};
-ghost use Rattle.table_scan.specs.Sink.{conditions_in, items_in, sink_of, take_one, unless_noted, with_row, with_values};
+ghost use Rattle.table_scan.specs.Sink.{conditions_in, items_in, sink_of, take_one, unless_noted, with_values};
 
 use crate::cut::print_cut;
 use crate::fault::SelectFault;
+use crate::items::fill_values;
 use crate::lines::{MOST_RESULT, end_text, print_line};
 use crate::reading::Reading;
 use bound_tree::Cut;
@@ -32,6 +33,8 @@ pub(crate) struct Taken {
     pub text: Vec<u8>,
     /// How long the text may be.
     pub limit: u128,
+    /// The items over the last row that was printed. Their memory is used again.
+    pub made: Row,
 }
 
 /// Before the first row.
@@ -48,19 +51,51 @@ pub(crate) fn new_taken(alloc: Global, columns: &Schema, orders: bool) -> Result
         rows: Vec::new(alloc),
         text,
         limit,
+        made: Row::new_row(alloc),
     })
 }
 
-// Keeps or prints a row of the result.
-fn put_row(columns: &Schema, row: Row, into: &mut Taken) -> Result<(), OutOfMemory>
-    ensures { OnOk result (sink_of into.new ≡ with_row row (sink_of into.old)) }
+// Keeps the items over a row.
+fn keep_items(
+    alloc: Global,
+    reading: &Reading<'_>,
+    row: &Row,
+    into: &mut Taken,
+) -> Result<(), OutOfMemory>
+    requires items { CanSelect reading.now.tests.items reading.now.items.now (row.now ∷ []) }
+    requires orders { into.old.orders ≡ true }
+    ensures { OnOk result (sink_of into.new ≡ with_values (values (items_in reading.now) row.now) (sink_of into.old)) }
 {
-    if into.orders {
-        into.rows.push(row)?;
-        return Ok(());
+    match values_of(alloc, reading.items, row.as_slice()) {
+        Ok(made) => {
+            into.rows.push(made)?;
+            Ok(())
+        }
+        Err(EvalFault::Fault(fault)) => {
+            into.fault = Some(fault);
+            Ok(())
+        }
+        Err(EvalFault::OutOfMemory) => Err(OutOfMemory),
     }
-    let limit = into.limit;
-    print_line(columns, limit, &row, &mut into.text)
+}
+
+// Prints the items over a row.
+fn print_items(reading: &Reading<'_>, row: &Row, into: &mut Taken) -> Result<(), OutOfMemory>
+    requires items { CanSelect reading.now.tests.items reading.now.items.now (row.now ∷ []) }
+    requires orders { into.old.orders ≡ false }
+    ensures { OnOk result (sink_of into.new ≡ with_values (values (items_in reading.now) row.now) (sink_of into.old)) }
+{
+    match fill_values(reading.items, row.as_slice(), &mut into.made) {
+        Ok(()) => {
+            let limit = into.limit;
+            print_line(reading.columns, limit, &into.made, &mut into.text)
+        }
+        Err(EvalFault::Fault(fault)) => {
+            into.fault = Some(fault);
+            Ok(())
+        }
+        Err(EvalFault::OutOfMemory) => Err(OutOfMemory),
+    }
 }
 
 // Takes the items over a row that is kept.
@@ -73,14 +108,10 @@ fn put_items(
     requires { CanSelect reading.now.tests.items reading.now.items.now (row.now ∷ []) }
     ensures { OnOk result (sink_of into.new ≡ with_values (values (items_in reading.now) row.now) (sink_of into.old)) }
 {
-    match values_of(alloc, reading.items, row.as_slice()) {
-        Ok(made) => put_row(reading.columns, made, into),
-        Err(EvalFault::Fault(fault)) => {
-            into.fault = Some(fault);
-            Ok(())
-        }
-        Err(EvalFault::OutOfMemory) => Err(OutOfMemory),
+    if into.orders {
+        return keep_items(alloc, reading, row, into);
     }
+    print_items(reading, row, into)
 }
 
 // The same, unless an item faulted before.
@@ -137,7 +168,7 @@ fn end_rows(
         ..
     } = taken;
     match cut {
-        Some(cut) => print_cut(alloc, columns, cut, rows.as_slice()),
+        Some(cut) => print_cut(alloc, columns, cut, rows),
         None => end_text(limit, text),
     }
 }

@@ -5,13 +5,14 @@ use Rattle.sql_meaning.specs.Found.{Row}
 use Rattle.table_scan.specs.Outcomes.{IsNoted}
 use Rattle.table_scan.specs.Sink.{conditions_in, sink_of}
 use Rattle.table_scan.specs.TableRows.{rows_of_set, rows_of_sets}
-use Rattle.table_scan.proofs.Going.{gone-more, gone-none, gone-noted, noted-before, sets-next}
+use Rattle.table_scan.proofs.Going.{gone-more, gone-none, gone-noted, noted-before, sets-next, takes-none, takes-then}
 use Rattle.table_scan.proofs.Resting.{here-on}
 use Rattle.table_scan.proofs.rows.take_sets.Goals as goal
 
 pub loop-set-init : goal.loop-set-init
 loop-set-init g c = record {
   gone = λ told. gone-none c.args.reading.now (rows_of_sets g.P.Pages.terms c.args.sets.now) (rows_of_sets g.P.Pages.terms c.args.sets.now) (sink_of c.args.into.now) (sink_of c.args.into.now) refl refl;
+  some = takes-none c.args.reading.now (sink_of c.args.into.now) (sink_of c.args.into.now) refl;
   kept = kept_same (g.P.Pages.view c.args.pages.now);
 }
 
@@ -43,5 +44,6 @@ loop-set-preserved g c =
     record {
       gone = λ told. gone-more c.args.reading.now (rows_of_sets t sets) (rows_of_sets t (drop i sets)) (rows_of_sets t (drop (i + 1) sets)) (rows_of_set t set) (sink_of c.args.into.now) (sink_of c.loop-set.into) (sink_of c.take_set.new.into)
           (c.loop-set.invariant.gone told) (sets-next t sets i set c.loop-set-test.true c.set-item.is) (c.in-Ok.ensures.taken told) (c.in-Ok.ensures.clean told);
+      some = takes-then c.args.reading.now (sink_of c.args.into.now) (sink_of c.loop-set.into) (sink_of c.take_set.new.into) c.loop-set.invariant.some c.in-Ok.ensures.some;
       kept = kept_then (g.P.Pages.view c.args.pages.now) (g.P.Pages.view c.loop-set.pages) (g.P.Pages.view c.take_set.new.pages) c.loop-set.invariant.kept c.take_set.ensures.kept;
     }

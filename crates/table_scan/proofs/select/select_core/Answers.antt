@@ -7,13 +7,15 @@ use Rattle.sql_expr.specs.declared.tree.Expr.{Expr}
 use Rattle.sql_expr.specs.Typing.{IsTyped}
 use Rattle.bound_tree.specs.declared.select.Conjunct.{Conjunct}
 use Rattle.bound_tree.specs.declared.select.BoundRows.TheViews.{out-BoundCore}
-use Rattle.sql_meaning.specs.Statements.{condition_of, row_value_of}
+use Rattle.sql_meaning.specs.Select.{counted_rows, cut_found}
+use Rattle.sql_meaning.specs.Statements.{condition_of, cut_of, row_value_of}
 use Rattle.plain_rows.specs.Tests.{condition_in}
 use Rattle.table_scan.specs.Scan.{conditions_among, kinds_of_sources}
+use Rattle.table_scan.specs.Sets.{scanned}
 use Rattle.table_scan.specs.Sink.{sink_of}
 use Rattle.table_scan.specs.TableRows.{rows_of_sets}
 use Rattle.table_scan.specs.Typed.{IsConditionOver}
-use Rattle.table_scan.proofs.Ending.{core-shown, ends-cause, scan-ends, scan-fails}
+use Rattle.table_scan.proofs.Ending.{core-shown, ends-cause, scan-ends, scan-fails, shown-block}
 use Rattle.table_scan.proofs.Testing.{as-conditions, as-typed}
 use Rattle.table_scan.proofs.select.select_core.Goals as goal
 
@@ -45,6 +47,18 @@ returns-in-Ok-clause-shows g c = λ told.
     (ap (map row_value_of) c.as_slice-4.ensures)
     (scan-ends Global columns cut conditions items rows c.is_some.result (sink_of c.in_ok-taken.taken) (sink_of c.take_sets.new.into) c.end_scan.result c.is_some.ensures c.in_ok-taken.ensures
     (c.in-Ok.ensures.taken told) (c.in-Ok.ensures.clean told) c.end_scan.ensures)
+
+pub returns-in-Ok-clause-block : goal.returns-in-Ok-clause-block
+returns-in-Ok-clause-block g c =
+    let conditions = map condition_in c.in_ok-tests_of.field-0.items in
+    let items = map row_value_of c.as_slice-4.result.now in
+    let columns = c.args.columns.now in
+    let cut = c.args.cut.now in
+    let some = c.in-Ok.ensures.some in
+    let found = scanned conditions items some.rows in
+    shown-block Global columns cut (counted_rows (cut_of cut) found) (cut_found (cut_of cut) found) (cut_found (cut_of cut) found).faults c.end_scan.result
+    (scan-ends Global columns cut conditions items some.rows c.is_some.result (sink_of c.in_ok-taken.taken) (sink_of c.take_sets.new.into) c.end_scan.result c.is_some.ensures c.in_ok-taken.ensures
+    some.taken some.clean c.end_scan.ensures)
 
 pub returns-in-Ok-clause-cause : goal.returns-in-Ok-clause-cause
 returns-in-Ok-clause-cause g c =
