@@ -1,0 +1,4 @@
+pub mod Told
+pub mod Causing
+pub mod Opening
+pub mod Ran

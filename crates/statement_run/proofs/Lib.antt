@@ -1,0 +1,4 @@
+mod Steps
+mod Tables
+mod Readable
+mod Binding
