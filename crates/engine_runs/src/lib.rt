@@ -1,10 +1,18 @@
-//! Runs of the engine, beside a plain run by the definition alone.
+//! Tests of the run of a script: from the words to the bytes that are written. What is expected was written by hand from the
+//! rules. They stand in a crate of their own, since a crate with tests is proved twice.
 #![tactic(auto)]
 
-mod fields;
-mod plain;
-
-pub use plain::plain_run;
-
 #[cfg(test)]
-mod tests;
+mod orders;
+#[cfg(test)]
+mod outside;
+#[cfg(test)]
+mod random;
+#[cfg(test)]
+mod refusals;
+#[cfg(test)]
+mod runs;
+#[cfg(test)]
+mod spilling;
+#[cfg(test)]
+mod worked;

@@ -3,7 +3,7 @@ use Rattle.std.specs.Prelude.{ℕ, Bool, false, List, [], ◌∷◌, codes, drop
 use Rattle.std.specs.Str.{bytes_eq}
 use Rattle.std.specs.Vec.Iter.{into_iter_items}
 use Rattle.std.specs.declared.vec.IntoIter.{IntoIter}
-use Rattle.ooc_engine.specs.Settings.{words_of}
+use Rattle.run_settings.specs.Texts.{words_of}
 
 -- The words behind the program's name. None where the arguments can't be had: one of them isn't UTF-8, or memory ran
 -- out.

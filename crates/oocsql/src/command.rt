@@ -1,37 +1,26 @@
 //! From the program's arguments to a run of the engine.
-ghost use Rattle.std.specs.Prelude.{◌≡◌, ◌≢◌, ◌⊎◌, Err, IfOk, IfSome, List, ℕ, drop, vec_len};
+ghost use Rattle.std.specs.Prelude.{◌≡◌, ◌≢◌, ◌⊎◌, Err, IfOk, IfSome, IsTrue, List, ℕ, drop, length};
 ghost use Rattle.std.specs.Vec.Iter.{into_iter_items};
 ghost use Rattle.std.specs.Io.KnownBytes.{Appends};
 ghost use Rattle.ooc_io.specs.Counts.{Rose, Stayed};
-ghost use Rattle.ooc_engine.specs.Answers.{EndsOrCut};
-ghost use Rattle.ooc_engine.specs.Catalog.{no_tables};
-ghost use Rattle.ooc_engine.specs.Ends.{EndsAs, EndsBy};
-ghost use Rattle.ooc_engine.specs.LastLine.{EndsInLine};
-ghost use Rattle.ooc_engine.specs.Says.{Says, Ends};
-ghost use Rattle.ooc_engine.specs.Settings.{settings, words_of};
+ghost use Rattle.ooc_engine.specs.Lanes.{AllStayed, OthersAs, SomeRose};
+ghost use Rattle.run_settings.specs.Settings.{settings};
+ghost use Rattle.run_settings.specs.Texts.{words_of};
+ghost use Rattle.script_says.specs.Ends.{EndsAs, EndsBy};
+ghost use Rattle.script_says.specs.LastLine.{EndsInLine};
+ghost use Rattle.script_says.specs.Runs.{Ends, EndsOrCut, IsWritten, Writes};
+ghost use Rattle.statement_run.specs.Running.{run_closing, run_outcome};
 ghost use Rattle.oocsql.specs.Arguments.{words_behind};
 
-use ooc_engine::{Status, end, run_script};
-use ooc_io::{Files, MemLane, NoGate, OutOfMemory, Sink};
+use ooc_engine::run_script;
+use ooc_io::{Files, NoGate, OutOfMemory, Sink, SpillLane};
+use run_settings::Status;
+use script_says::end;
 use std::alloc::Global;
 use std::env::Args;
 use std::io;
 use std::sync::Wait;
 use std::thread::Threads;
-
-/// The lanes of a run.
-const LANES: usize = 64;
-
-// The lanes that the engine is handed.
-fn lanes(alloc: Global) -> Result<Vec<MemLane>, OutOfMemory>
-    ensures { IfOk result (λ lanes. vec_len lanes ≡ 64) }
-{
-    let mut lanes = Vec::with_capacity(alloc, LANES)?;
-    for _ in 0..LANES {
-        lanes.push(MemLane::new_lane(alloc, Vec::new(alloc), Vec::new(alloc)))?;
-    }
-    Ok(lanes)
-}
 
 // The arguments behind the first.
 fn others(alloc: Global, args: Args) -> Result<Vec<String>, OutOfMemory>
@@ -57,54 +46,44 @@ pub(crate) fn words_in(alloc: Global, args: io::Result<Args>) -> Result<Vec<Stri
     }
 }
 
-// The words and the lanes.
-fn prepare(
-    alloc: Global,
-    args: io::Result<Args>,
-) -> Result<(Vec<String>, Vec<MemLane>), OutOfMemory>
-    ensures words { IfOk result (λ run. words_of run.0.items ≡ words_behind args) }
-    ensures lanes { IfOk result (λ run. vec_len run.1 ≡ 64) }
-{
-    let words = words_in(alloc, args)?;
-    let lanes = lanes(alloc)?;
-    Ok((words, lanes))
-}
-
-/// Runs the script that the arguments name. The first argument is the program's name.
-pub fn run<R: Threads + Wait + Sync, F: Files, K: Sink>(
+/// Runs the script that the arguments name, over these lanes. The first argument is the program's name.
+pub fn run<R: Threads + Wait + Sync, F: Files, K: Sink, L: SpillLane + Send>(
     rt: &R,
     alloc: Global,
     args: io::Result<Args>,
     files: &mut F,
     out: &mut K,
+    lanes: &mut [L],
 ) -> Status
-    // What is written is what the script says, statement by statement.
-    ensures says { IfSome (F.holds files.old) (λ held. (more : List ℕ)
+    requires { length lanes.old ≡ 64 }
+    // What is written is what the script says, statement by statement, over files and lanes that tell.
+    ensures says { IsTrue L.Mark.tells → IfSome (F.holds files.old) (λ held. (more : List ℕ)
         × Appends (K.written out.old) (K.written out.new) more
-        × Says no_tables (words_behind args) held more result) }
+        × IsWritten (Writes (run_outcome held) run_closing (settings (words_behind args)) held) more result) }
     // Usage is answered for wrong words alone, and wrong words are answered so; what is then written is their line.
     ensures usage { (fault : _) → result ≡ Status.Usage fault → settings (words_behind args) ≡ Err fault }
     ensures usage_told { (fault : _) → settings (words_behind args) ≡ Err fault → EndsAs (Status.Usage fault) result }
     ensures usage_line { (fault : _) → settings (words_behind args) ≡ Err fault
         → EndsBy (K.written out.old) (K.written out.new) (Status.Usage fault) result }
     // The script ends as the definition has it, unless a fault from outside or want of memory cuts it.
-    ensures ends { IfSome (F.holds files.old) (λ held. EndsOrCut no_tables (words_behind args) held result) }
-    // Each fault has its cause.
+    ensures ends { IsTrue L.Mark.tells → IfSome (F.holds files.old) (λ held. EndsOrCut (run_outcome held) (settings (words_behind args)) held result) }
+    // Each fault has its cause. A page that was read back is damaged only over lanes that don't tell.
     ensures read_fault { result ≡ Status.ReadFault → Rose (F.faults files.old) (F.faults files.new) }
+    ensures spill_fault { result ≡ Status.SpillFault → SomeRose L.faults lanes.old lanes.new }
+    ensures spill_damaged { (damage : _) → result ≡ Status.SpillDamaged damage → IsTrue L.Mark.tells → ⊥ }
     ensures write_fault { result ≡ Status.WriteFault → Rose (K.faults out.old) (K.faults out.new) }
     ensures write_told { result ≢ Status.WriteFault → K.faults out.new ≡ K.faults out.old }
-    // Whatever the files tell, the line of the status stands last, unless the output failed.
-    ensures last { EndsInLine (K.written out.old) (K.written out.new) result }
+    // The first lane alone is used.
+    ensures others { OthersAs 0 lanes.old lanes.new }
+    // Whatever files and lanes tell, the line of the status stands last, unless the output failed.
+    ensures last { EndsInLine run_closing (K.written out.old) (K.written out.new) result }
     // Where no fault came, the status is the script's, or memory ran out.
-    ensures complete { Stayed (F.faults files.old) (F.faults files.new) → Stayed (K.faults out.old) (K.faults out.new)
-        → IfSome (F.holds files.old) (λ held. Ends no_tables (words_behind args) held result
+    ensures complete { IsTrue L.Mark.tells → Stayed (F.faults files.old) (F.faults files.new) → Stayed (K.faults out.old) (K.faults out.new)
+        → AllStayed L.faults lanes.old lanes.new → IfSome (F.holds files.old) (λ held. Ends (run_outcome held) (settings (words_behind args)) held result
         ⊎ (result ≡ Status.OutOfMemory)) }
 {
-    match prepare(alloc, args) {
-        Ok((words, mut lanes)) => {
-            let words = words.as_slice();
-            run_script(rt, alloc, words, files, out, lanes.as_mut_slice(), &NoGate)
-        }
+    match words_in(alloc, args) {
+        Ok(words) => run_script(rt, alloc, words.as_slice(), files, out, lanes, &NoGate),
         Err(_) => end(alloc, out, Status::OutOfMemory),
     }
 }

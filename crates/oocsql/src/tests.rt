@@ -1,8 +1,10 @@
 //! The command over memory forms, and the real forms once each.
 
+ghost use Rattle.std.specs.Prelude.{◌≡◌, IfOk, vec_len};
+
 use super::*;
-use ooc_io::{Files, MemFiles, MemSink, OpenFault, Sink};
-use std::alloc::Global;
+use ooc_io::{Files, MemFiles, MemLane, MemSink, OpenFault, Sink};
+use std::alloc::{AllocError, Global};
 use std::env::Args;
 use std::process::Abort;
 use std::sync::Wait;
@@ -20,6 +22,17 @@ static COMMANDS: [(&[&str], u8, &str); 4] = [
     (&["--help"], 2, USAGE),
 ];
 
+/// Lanes in memory.
+fn mem_lanes(alloc: Global) -> Result<Vec<MemLane>, AllocError>
+    ensures { IfOk result (λ lanes. vec_len lanes ≡ 64) }
+{
+    let mut lanes = Vec::with_capacity(alloc, 64)?;
+    for _ in 0u32..64 {
+        lanes.push(MemLane::new_lane(alloc, Vec::new(alloc), Vec::new(alloc)))?;
+    }
+    Ok(lanes)
+}
+
 /// Runs a command without files, and compares its exit status and what is written.
 fn expect<R: Threads + Wait + Sync + Abort>(
     rt: &R,
@@ -30,7 +43,8 @@ fn expect<R: Threads + Wait + Sync + Abort>(
 ) -> Result<(), Fail> {
     let mut files = MemFiles::new_files(Vec::new(alloc), Vec::new(alloc));
     let mut sink = MemSink::new_sink(alloc, Vec::new(alloc), 256)?;
-    let status = run(rt, alloc, args, &mut files, &mut sink);
+    let mut lanes = mem_lanes(alloc)?;
+    let status = run(rt, alloc, args, &mut files, &mut sink, lanes.as_mut_slice());
     assert_eq!(rt; sink.bytes(), out.as_bytes());
     assert_eq!(rt; status.code(), code);
     Ok(())
@@ -117,5 +131,76 @@ fn the_standard_output_takes_bytes(rt: HostRuntime) -> Result<(), Fail> {
     }
     assert!(rt; sink.flush() == Ok(()));
     assert_eq!(rt; sink.fault_count(), 0);
+    Ok(())
+}
+
+/// A table of 8,000 such rows has more pages than a limit of 24 frames has room for.
+const ROW: &str = "1,a name that is longer than what a row keeps of it\n";
+
+/// The words of a run within that limit.
+const LIMITED: [&str; 5] = ["--limit", "98304", "--page", "4096", "large.sql"];
+
+/// The file of the first lane.
+const FIRST: &str = "oocsql-spill-00.tmp";
+
+/// The script, its exit status, and what it prints.
+static LARGE: [(&str, u8, &str); 2] = [
+    (
+        "CREATE TABLE t (id INTEGER, name VARCHAR); COPY t FROM 'large.csv' (HEADER FALSE); SELECT id FROM t WHERE id = 2;",
+        0,
+        "id\n\n",
+    ),
+    (
+        "CREATE TABLE t (id INTEGER, name VARCHAR); COPY t FROM 'large.csv' (HEADER FALSE); SELECT other FROM t;",
+        1,
+        "error: statement 3 at 90: no column\n",
+    ),
+];
+
+fn large_file(alloc: Global) -> Result<String, AllocError> {
+    let mut rows = String::new(alloc);
+    for _ in 0u32..8000 {
+        rows.push_str(ROW)?;
+    }
+    Ok(rows)
+}
+
+#[test]
+fn a_table_larger_than_the_limit_leaves_no_file(rt: HostRuntime) -> Result<(), Fail> {
+    let alloc = rt.alloc();
+    fs::write(&rt, "large.csv", large_file(alloc)?.as_str())?;
+    for (script, code, out) in &LARGE {
+        fs::write(&rt, "large.sql", *script)?;
+        let mut lanes = file_lanes(&rt, alloc)?;
+        let mut files = RealFiles::new_files(&rt);
+        let mut sink = MemSink::new_sink(alloc, Vec::new(alloc), 256)?;
+        let args = Ok(arguments(alloc, &LIMITED)?);
+        let lent = lanes.as_mut_slice();
+        let status = run(&rt, alloc, args, &mut files, &mut sink, lent);
+        remove_files(lanes.as_slice());
+        assert_eq!(rt; sink.bytes(), out.as_bytes());
+        assert_eq!(rt; status.code(), *code);
+        assert!(rt; fs::metadata(&rt, FIRST).is_err());
+    }
+    // The file is there until it is removed.
+    let mut lanes = file_lanes(&rt, alloc)?;
+    let mut files = RealFiles::new_files(&rt);
+    let mut sink = MemSink::new_sink(alloc, Vec::new(alloc), 256)?;
+    let args = Ok(arguments(alloc, &LIMITED)?);
+    let _ = run(
+        &rt,
+        alloc,
+        args,
+        &mut files,
+        &mut sink,
+        lanes.as_mut_slice(),
+    );
+    assert!(rt; lanes[0].write_count() > 100);
+    assert_eq!(rt; lanes[0].fault_count(), 0);
+    assert!(rt; fs::metadata(&rt, FIRST).is_ok());
+    remove_files(lanes.as_slice());
+    assert!(rt; fs::metadata(&rt, FIRST).is_err());
+    fs::remove_file(&rt, "large.csv")?;
+    fs::remove_file(&rt, "large.sql")?;
     Ok(())
 }

@@ -1,0 +1,19 @@
+use Rattle.std.proofs.Common.{◌∙◌, ap}
+use Rattle.run_settings.specs.declared.status.Status.TheVariants.{OutOfMemory}
+use Rattle.statement_run.specs.Running.{run_closing}
+use Rattle.script_says.proofs.SoFar.{Appends-none}
+use Rattle.script_says.proofs.LastLines.{last_line, grown_nothing, memory_not_done}
+use Rattle.ooc_engine.proofs.Statements.{at_page, none_said}
+use Rattle.ooc_engine.proofs.run.run_paged.Goals as goal
+
+pub returns-in-Ok-clause-says : goal.returns-in-Ok-clause-says
+returns-in-Ok-clause-says g c tells =
+    at_page (g.F.Files.holds c.args.files.now) (g.K.Sink.written c.args.out.now) (g.K.Sink.written c.run_over.new.out) c.args.script.now c.args.statements.now c.run_over.result
+    _ c.args.settings.now.page (ap (λ tables. tables.page) c.over-pages.ensures.tables ∙ c.in-Ok.ensures.opened.page_bytes') (c.run_over.ensures.says tells)
+
+pub returns-in-Err-clause-says : goal.returns-in-Err-clause-says
+returns-in-Err-clause-says g c tells =
+    none_said (g.F.Files.holds c.args.files.now) (g.K.Sink.written c.args.out.now) (g.K.Sink.written c.end.new.out) c.args.script.now c.args.statements.now c.end.result c.args.settings.now.page c.end.ensures.line
+
+pub returns-in-Err-clause-last : goal.returns-in-Err-clause-last
+returns-in-Err-clause-last g c = last_line run_closing _ (g.K.Sink.written c.args.out.now) _ OutOfMemory c.end.result memory_not_done (grown_nothing _ _ (Appends-none (g.K.Sink.written c.args.out.now))) c.end.ensures.line
