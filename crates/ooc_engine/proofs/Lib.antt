@@ -3,3 +3,4 @@ pub mod Told
 pub mod Stopped
 pub mod FirstLane
 pub mod Statements
+mod Paying

@@ -1,5 +1,5 @@
 //! The top call.
-ghost use Rattle.std.specs.Prelude.{◌≡◌, ◌≢◌, ◌<◌, ◌≤◌, ◌^◌, ◌⊎◌, List, ℕ, Ok, Err, IfSome, IsTrue, length};
+ghost use Rattle.std.specs.Prelude.{◌≡◌, ◌≢◌, ◌-◌, ◌<◌, ◌≤◌, ◌^◌, ◌⊎◌, List, ℕ, Ok, Err, IfSome, IsTrue, length};
 ghost use Rattle.std.specs.List.{AllByRecursion};
 ghost use Rattle.std.specs.Io.KnownBytes.{Appends};
 ghost use Rattle.formed_binding.specs.Placed.{StandApart};
@@ -15,7 +15,8 @@ ghost use Rattle.script_says.specs.Ends.{EndsAs, EndsBy, HasWriteCause};
 ghost use Rattle.script_says.specs.LastLine.{EndsInLine};
 ghost use Rattle.script_says.specs.Runs.{Ends, EndsOrCut, IsWritten, Run, Writes};
 ghost use Rattle.statement_run.specs.Running.{run_closing, run_outcome, run_statement};
-ghost use Rattle.ooc_engine.specs.Lanes.{AllStayed, OthersAs, SomeRose};
+ghost use Rattle.ooc_engine.specs.Lanes.{AllStayed, OthersAs, SomeRose, count_at};
+ghost use Rattle.ooc_engine.specs.Written.{PaidFor, PaidForScript, PaidForWords};
 
 use apart_calls::parsed_statements_stand_apart;
 use ooc_io::{Files, Gate, OutOfMemory, Sink, SpillLane};
@@ -48,6 +49,8 @@ fn run_paged<F: Files, K: Sink, L: SpillLane>(
     ensures says { IsTrue L.Mark.tells → IfSome (F.holds files.old) (λ held. (more : List ℕ)
         × Appends (K.written out.old) (K.written out.new) more
         × IsWritten (Run (run_outcome held settings.now script.now) run_closing 1 no_tables statements.now) more result) }
+    ensures bound { IsTrue L.Mark.tells → result ≡ Status.Done → L.writes lane.new < 2 ^ 64 - 1
+        → IfSome (F.holds files.old) (λ held. PaidFor (K.written out.old) (K.written out.new) (run_outcome held settings.now script.now) statements.now settings.now.page settings.now.frames (L.writes lane.old) (L.writes lane.new)) }
     ensures cause { HasRunCause L.Mark.tells (F.faults files.old) (F.faults files.new) (L.faults lane.old) (L.faults lane.new) result }
     ensures written { HasWriteCause (K.faults out.old) (K.faults out.new) result }
     ensures last { EndsInLine run_closing (K.written out.old) (K.written out.new) result }
@@ -77,6 +80,8 @@ fn run_named<F: Files, K: Sink, L: SpillLane>(
     ensures says { IsTrue L.Mark.tells → IfSome (F.holds files.old) (λ held. (more : List ℕ)
         × Appends (K.written out.old) (K.written out.new) more
         × IsWritten (Writes (run_outcome held) run_closing (Ok settings.now) held) more result) }
+    ensures bound { IsTrue L.Mark.tells → result ≡ Status.Done → L.writes lane.new < 2 ^ 64 - 1
+        → IfSome (F.holds files.old) (λ held. PaidForScript (K.written out.old) (K.written out.new) (run_outcome held) settings.now held (L.writes lane.old) (L.writes lane.new)) }
     ensures cause { HasRunCause L.Mark.tells (F.faults files.old) (F.faults files.new) (L.faults lane.old) (L.faults lane.new) result }
     ensures written { HasWriteCause (K.faults out.old) (K.faults out.new) result }
     ensures last { EndsInLine run_closing (K.written out.old) (K.written out.new) result }
@@ -110,6 +115,8 @@ fn run_words<F: Files, K: Sink, L: SpillLane>(
     ensures says { IsTrue L.Mark.tells → IfSome (F.holds files.old) (λ held. (more : List ℕ)
         × Appends (K.written out.old) (K.written out.new) more
         × IsWritten (Writes (run_outcome held) run_closing (settings (words_of words.now)) held) more result) }
+    ensures bound { IsTrue L.Mark.tells → result ≡ Status.Done → L.writes lane.new < 2 ^ 64 - 1
+        → IfSome (F.holds files.old) (λ held. PaidForWords (K.written out.old) (K.written out.new) (run_outcome held) (settings (words_of words.now)) held (L.writes lane.old) (L.writes lane.new)) }
     ensures usage { (fault : _) → result ≡ Status.Usage fault → settings (words_of words.now) ≡ Err fault }
     ensures usage_told { (fault : _) → settings (words_of words.now) ≡ Err fault → EndsAs (Status.Usage fault) result }
     ensures usage_line { (fault : _) → settings (words_of words.now) ≡ Err fault
@@ -148,6 +155,9 @@ fn run_first<F: Files, K: Sink, L: SpillLane>(
     ensures spill_damaged { (damage : _) → result ≡ Status.SpillDamaged damage → IsTrue L.Mark.tells → ⊥ }
     ensures write_fault { result ≡ Status.WriteFault → Rose (K.faults out.old) (K.faults out.new) }
     ensures write_told { result ≢ Status.WriteFault → K.faults out.new ≡ K.faults out.old }
+    ensures bound { IsTrue L.Mark.tells → result ≡ Status.Done → count_at L.writes lanes.new 0 < 2 ^ 64 - 1
+        → IfSome (F.holds files.old) (λ held. PaidForWords (K.written out.old) (K.written out.new) (run_outcome held) (settings (words_of words.now)) held
+        (count_at L.writes lanes.old 0) (count_at L.writes lanes.new 0)) }
     ensures others { OthersAs 0 lanes.old lanes.new }
     ensures last { EndsInLine run_closing (K.written out.old) (K.written out.new) result }
     ensures complete { IsTrue L.Mark.tells → Stayed (F.faults files.old) (F.faults files.new) → Stayed (K.faults out.old) (K.faults out.new)
@@ -189,6 +199,10 @@ pub fn run_script<R: Threads + Wait + Sync, F: Files, K: Sink, L: SpillLane + Se
     ensures spill_damaged { (damage : _) → result ≡ Status.SpillDamaged damage → IsTrue L.Mark.tells → ⊥ }
     ensures write_fault { result ≡ Status.WriteFault → Rose (K.faults out.old) (K.faults out.new) }
     ensures write_told { result ≢ Status.WriteFault → K.faults out.new ≡ K.faults out.old }
+    // A run that is done wrote the pages that its last tables need to the first lane, but for as many as the frames hold.
+    ensures bound { IsTrue L.Mark.tells → result ≡ Status.Done → count_at L.writes lanes.new 0 < 2 ^ 64 - 1
+        → IfSome (F.holds files.old) (λ held. PaidForWords (K.written out.old) (K.written out.new) (run_outcome held) (settings (words_of words.now)) held
+        (count_at L.writes lanes.old 0) (count_at L.writes lanes.new 0)) }
     // The first lane alone is used.
     ensures others { OthersAs 0 lanes.old lanes.new }
     // Whatever files and lanes tell, the line of the status stands last, unless the output failed.

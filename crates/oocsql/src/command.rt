@@ -1,9 +1,10 @@
 //! From the program's arguments to a run of the engine.
-ghost use Rattle.std.specs.Prelude.{◌≡◌, ◌≢◌, ◌⊎◌, Err, IfOk, IfSome, IsTrue, List, ℕ, drop, length};
+ghost use Rattle.std.specs.Prelude.{◌≡◌, ◌≢◌, ◌-◌, ◌<◌, ◌^◌, ◌⊎◌, Err, IfOk, IfSome, IsTrue, List, ℕ, drop, length};
 ghost use Rattle.std.specs.Vec.Iter.{into_iter_items};
 ghost use Rattle.std.specs.Io.KnownBytes.{Appends};
 ghost use Rattle.ooc_io.specs.Counts.{Rose, Stayed};
-ghost use Rattle.ooc_engine.specs.Lanes.{AllStayed, OthersAs, SomeRose};
+ghost use Rattle.ooc_engine.specs.Lanes.{AllStayed, OthersAs, SomeRose, count_at};
+ghost use Rattle.ooc_engine.specs.Written.{PaidForWords};
 ghost use Rattle.run_settings.specs.Settings.{settings};
 ghost use Rattle.run_settings.specs.Texts.{words_of};
 ghost use Rattle.script_says.specs.Ends.{EndsAs, EndsBy};
@@ -73,6 +74,10 @@ pub fn run<R: Threads + Wait + Sync, F: Files, K: Sink, L: SpillLane + Send>(
     ensures spill_damaged { (damage : _) → result ≡ Status.SpillDamaged damage → IsTrue L.Mark.tells → ⊥ }
     ensures write_fault { result ≡ Status.WriteFault → Rose (K.faults out.old) (K.faults out.new) }
     ensures write_told { result ≢ Status.WriteFault → K.faults out.new ≡ K.faults out.old }
+    // A run that is done wrote the pages that its last tables need to the first lane, but for as many as the frames hold.
+    ensures bound { IsTrue L.Mark.tells → result ≡ Status.Done → count_at L.writes lanes.new 0 < 2 ^ 64 - 1
+        → IfSome (F.holds files.old) (λ held. PaidForWords (K.written out.old) (K.written out.new) (run_outcome held) (settings (words_behind args)) held
+        (count_at L.writes lanes.old 0) (count_at L.writes lanes.new 0)) }
     // The first lane alone is used.
     ensures others { OthersAs 0 lanes.old lanes.new }
     // Whatever files and lanes tell, the line of the status stands last, unless the output failed.

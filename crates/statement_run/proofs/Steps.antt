@@ -1,7 +1,7 @@
 -- What the call of a statement answers.
 use Rattle.std.proofs.Common.{◌≡◌, ◌<◌, ℕ, zero, suc, arith, length, map, inl, inr, Bool, true, false, cond, List, [], ◌∷◌, Option, Some, None, Result, Ok, Err, Vec, refl, ap, sym, ◌∙◌, subst, lit<}
 use Rattle.std.specs.List.{Contains}
-use Rattle.std.specs.Prelude.{IfSome, IsSome, slice_index_or}
+use Rattle.std.specs.Prelude.{IfOk, IfSome, IsSome, slice_index_or}
 use Rattle.ooc_io.specs.Held.{Held}
 use Rattle.ooc_types.specs.declared.value.Value.{Value}
 use Rattle.ooc_types.specs.declared.schema.Column.{Column}
@@ -16,7 +16,6 @@ use Rattle.csv_tables.specs.declared.fault.LoadFault.{LoadFault}
 use Rattle.csv_tables.specs.declared.fault.LoadFault.TheVariants as load
 use Rattle.csv_tables.specs.Faults.{HasLoadCause}
 use Rattle.plan_tree.specs.Planned.{Counts, plan_of_select}
-use Rattle.plan_tree.specs.declared.stages.PlanSelect.{PlanSelect}
 use Rattle.plan_text.specs.Explained.{plan_text}
 use Rattle.bound_tree.specs.declared.select.BoundSelect.{BoundSelect}
 use Rattle.sql_expr.specs.declared.fault.ValueFault.{ValueFault}
@@ -111,11 +110,13 @@ load_cause told f g k m number load.OutOfMemory cause = tt
 -- ---- EXPLAIN
 
 module _ (counts : Counts) (select : BoundSelect) where
-  pub plan_is : (all seen : List TableCount) (plan : PlanSelect) (text : List ℕ) → seen ≡ all → ((name : List ℕ) → counts_in all name ≡ counts name) → plan ≡ plan_of_select (counts_in seen) select
-      → text ≡ plan_text plan → text ≡ plan_text (plan_of_select counts select)
-  plan_is all seen plan text same are is made =
+  -- by counts that are those of the tables
+  pub plan_is : {A E : Type 0} (all seen : List TableCount) (r : Result (Vec ℕ A) E) → seen ≡ all → ((name : List ℕ) → counts_in all name ≡ counts name)
+      → IfOk r (λ text. text.items ≡ plan_text (plan_of_select (counts_in seen) select)) → IfOk r (λ text. text.items ≡ plan_text (plan_of_select counts select))
+  plan_is all seen (Err e) same are made = tt
+  plan_is all seen (Ok text) same are made =
       let those : counts_in seen ≡ counts = ap counts_in same ∙ (λ k name. are name k) in
-      made ∙ ap plan_text (is ∙ ap (λ (c : Counts). plan_of_select c select) those)
+      made ∙ ap (λ (c : Counts). plan_text (plan_of_select c select)) those
 
   pub plan_block : (text : List ℕ) → text ≡ plan_text (plan_of_select counts select) → IsBlock text
   plan_block text is = inr (inr (plan_of_select counts select, is))

@@ -13,12 +13,11 @@ ghost use Rattle.statement_run.specs.Causes.{HasStatementCause};
 ghost use Rattle.statement_run.specs.Running.{running};
 ghost use Rattle.well_formed.specs.Statements.{IsWellFormed};
 
-use crate::copying::copy;
+use crate::copying::{copy, options_of};
 use crate::creating::{create, drop_named};
 use crate::explaining::plan_block;
 use crate::selecting::show;
 use bound_tree::Bound;
-use csv_load::CsvOptions;
 use ooc_io::Files;
 use page_body::Pages;
 use paged_catalog::Catalog;
@@ -57,11 +56,7 @@ pub(crate) fn act<F: Files, P: Pages>(
             delimiter,
             null,
         } => {
-            let options = CsvOptions {
-                header,
-                delimiter,
-                null,
-            };
+            let options = options_of(header, delimiter, null);
             copy(alloc, files, pages, number, catalog, &name, &file, &options)
         }
         Bound::Explain(select) => match plan_block(alloc, pages, catalog, &select) {

@@ -54,6 +54,17 @@ fn load_status(number: u32, fault: LoadFault) -> Status
     }
 }
 
+/// How the file of a COPY is read.
+pub(crate) fn options_of(header: bool, delimiter: u8, null: Text) -> CsvOptions
+    ensures { result ≡ record { header = header; delimiter = delimiter; null = null } }
+{
+    CsvOptions {
+        header,
+        delimiter,
+        null,
+    }
+}
+
 // Loads the file of a name behind the rows of a table.
 fn load<F: Files, P: Pages>(
     alloc: Global,
