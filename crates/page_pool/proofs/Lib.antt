@@ -1,0 +1,5 @@
+pub mod Faults
+pub mod Homes
+pub mod Loaded
+pub mod Looks
+pub mod Numbers

@@ -1,0 +1,16 @@
+pub mod Backed
+pub mod Bodies
+pub mod Cells
+pub mod Changes
+pub mod Images
+pub mod Loads
+pub mod Numbers
+pub mod Opening
+pub mod Opens
+pub mod Pages
+pub mod Rooms
+pub mod Shown
+pub mod Tried
+pub mod Turns
+pub mod View
+pub mod Words
